@@ -1,0 +1,80 @@
+-- What the words name, and what was read.
+use Rattle.std.proofs.Common.{◌≡◌, refl, ℕ, ◌<◌, ◌≤◌, List, [], ◌∷◌, length, get_or, codes, inl, inr, ⊎_elim, sym, ◌∙◌, ap, arith, true, Option}
+use Rattle.std.specs.List.{AllByRecursion}
+use Rattle.bye_terms.specs.declared.term.Term.{Term}
+use Rattle.bye_terms.specs.declared.term.Term.TheVariants.{Iri, Blank, Lit}
+use Rattle.bye_terms.specs.Iris.{IsIri}
+use Rattle.bye_terms.specs.Terms.{Statement, IsTriple, is_subject, is_iri_term}
+use Rattle.bye_terms.proofs.Members.{all_from}
+use Rattle.bye_ntriples.specs.FirstForm.{HasIris}
+use Rattle.bye_pattern.specs.Tables.{TableValue}
+use Rattle.bye_pattern.specs.Learning.{IsWithin}
+use Rattle.bye_pattern.proofs.RowMappings.{rows_bind}
+use Rattle.bye_cli.specs.Words.{Word, IsLearn}
+use Rattle.bye_cli.specs.Problem.{HoldsGraph, HoldsTable, IsAsked, IsRead, IsWritten, IsAnswer}
+use Rattle.bye_cli.specs.declared.answer.Answer.{Answer}
+use Rattle.bye_cli.specs.declared.answer.Answer.TheVariants.{Query, Refusal}
+
+pub five_words : (words : List Word) (a b d e f : Word) → 5 ≤ length words → length words < 6
+    → a ≡ get_or words 0 a → b ≡ get_or words 1 b → d ≡ get_or words 2 d → e ≡ get_or words 3 e → f ≡ get_or words 4 f → words ≡ a ∷ b ∷ d ∷ e ∷ f ∷ []
+five_words (v ∷ w ∷ x ∷ y ∷ z ∷ []) a b d e f low high i j k l m = sym (λ n. i n ∷ j n ∷ k n ∷ l n ∷ m n ∷ [])
+five_words words a b d e f low high i j k l m = absurd (omega arith)
+
+graph_is_not_wanted : codes "--graph" ≡ codes "--wanted" → ⊥
+graph_is_not_wanted e = let c : ◌≡◌ {A = ℕ} 103 119 = ap (λ text. get_or text 2 0) e in omega arith
+
+wanted_is_not_graph : codes "--wanted" ≡ codes "--graph" → ⊥
+wanted_is_not_graph e = graph_is_not_wanted (sym e)
+
+pub graph_first : (words : List Word) (graph wanted : Word) → words ≡ codes "learn" ∷ codes "--graph" ∷ graph ∷ codes "--wanted" ∷ wanted ∷ [] → IsLearn words graph wanted
+graph_first words graph wanted e = record {
+  options = (codes "--graph", graph) ∷ (codes "--wanted", wanted) ∷ [];
+  line = record {
+    parts = e;
+    named = (inl refl, (inr (inl refl), tt));
+    once = ((λ h. ⊎_elim wanted_is_not_graph (λ k. k) h), ((λ h. h), tt));
+  };
+  graph_named = inl refl;
+  wanted_named = inr (inl refl);
+}
+
+pub wanted_first : (words : List Word) (graph wanted : Word) → words ≡ codes "learn" ∷ codes "--wanted" ∷ wanted ∷ codes "--graph" ∷ graph ∷ [] → IsLearn words graph wanted
+wanted_first words graph wanted e = record {
+  options = (codes "--wanted", wanted) ∷ (codes "--graph", graph) ∷ [];
+  line = record {
+    parts = e;
+    named = (inr (inl refl), (inl refl, tt));
+    once = ((λ h. ⊎_elim graph_is_not_wanted (λ k. k) h), ((λ h. h), tt));
+  };
+  graph_named = inr (inl refl);
+  wanted_named = inl refl;
+}
+
+subject_from_iri : (t : Term) → IsIri t → is_subject t ≡ true
+subject_from_iri (Iri text) h = refl
+subject_from_iri (Blank label) h = absurd h
+subject_from_iri (Lit literal) h = absurd h
+
+predicate_from_iri : (t : Term) → IsIri t → is_iri_term t ≡ true
+predicate_from_iri (Iri text) h = refl
+predicate_from_iri (Blank label) h = absurd h
+predicate_from_iri (Lit literal) h = absurd h
+
+triples_from_iris : (triples : List Statement) → AllByRecursion HasIris triples → AllByRecursion IsTriple triples
+triples_from_iris [] h = tt
+triples_from_iris (t ∷ triples) h = ((subject_from_iri t.s h.0.subject, predicate_from_iri t.p h.0.predicate), triples_from_iris triples h.1)
+
+-- documents of the first forms are read as the learner takes them
+pub is_read : (files : Option (List ℕ → Option (List ℕ))) (graph_name wanted_name : Word) (graph : List Statement) (wanted : TableValue)
+    → HoldsGraph files graph_name graph → HoldsTable files wanted_name wanted → IsRead graph wanted
+is_read files graph_name wanted_name graph wanted g w = record {
+  triples = triples_from_iris graph g.read.written.iris;
+  within = all_from (IsWithin wanted.header) wanted.rows (λ row h v binds. ((rows_bind w.bytes wanted w.read row h).1 v).0 binds);
+}
+
+pub is_answer : (files : Option (List ℕ → Option (List ℕ))) (words : List Word) (graph : List Statement) (wanted : TableValue) (answer : Answer)
+    → IsAsked files words graph wanted → IsWritten graph wanted answer → IsAnswer files words answer
+is_answer files words graph wanted (Query text) asked (query, strongest, written) =
+    record { graph = graph; wanted = wanted; asked = asked; query = query; strongest = strongest; written = written }
+is_answer files words graph wanted (Refusal text) asked (variable, uncovered, written) =
+    record { graph = graph; wanted = wanted; asked = asked; variable = variable; uncovered = uncovered; written = written }

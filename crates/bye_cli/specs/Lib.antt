@@ -1,0 +1,4 @@
+pub mod Words
+pub mod Documents
+pub mod Problem
+pub mod Statuses

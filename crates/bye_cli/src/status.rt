@@ -1,0 +1,35 @@
+use bye_terms::Memory;
+
+/// How the program ended.
+#[derive(Debug, Clone, Copy, PartialEq, Eq)]
+pub enum Status {
+    /// The command's work was done.
+    Done = 0,
+    /// No query of the class fits.
+    Refused = 1,
+    /// The words are not those of a command.
+    Words = 2,
+    /// A document is not of its form.
+    Document = 3,
+    /// A document is longer than its limit.
+    Limit = 4,
+    /// A document could not be read.
+    ReadFault = 5,
+    /// The output could not be written.
+    WriteFault = 6,
+    /// Memory was refused.
+    Memory = 7,
+    /// There is no wanted row.
+    Example = 9,
+}
+
+impl From<Memory> for Status {
+    ghost use Rattle.bye_cli.specs.declared.status.Status.TheVariants as statuses;
+    ghost use Rattle.std.specs.Prelude.{◌≡◌};
+
+    ghost from_gives = { λ _ status. status ≡ statuses.Memory };
+
+    fn from(_: Memory) -> Self {
+        Status::Memory
+    }
+}

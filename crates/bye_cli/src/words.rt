@@ -1,0 +1,47 @@
+//! The words of the command line.
+
+ghost use Rattle.std.specs.Prelude.{◌≡◌, ◌↔◌, IfSome, IsTrue};
+ghost use Rattle.bye_terms.specs.Ascii.{is_ascii};
+ghost use Rattle.bye_cli.specs.Words.{IsLearn};
+
+use bye_terms::Text;
+
+/// The names of the two documents of `learn`.
+#[derive(Clone, Copy)]
+pub struct Learn<'a> {
+    pub graph: &'a Text,
+    pub wanted: &'a Text,
+}
+
+/// Whether the word is this one, which is of ASCII.
+fn is_word(word: &Text, name: &str) -> bool
+    requires { IsTrue (is_ascii name.now) }
+    ensures { IsTrue result ↔ (word.now ≡ name.now) }
+{
+    word.as_str() == name
+}
+
+/// The names that the words give, where they are those of a `learn` command.
+pub fn read_words(words: &[Text]) -> Option<Learn<'_>>
+    ensures learn { IfSome result (λ c. IsLearn words.now c.graph.now c.wanted.now) }
+{
+    let [command, first, one, second, other] = words else {
+        return None;
+    };
+    if !is_word(command, "learn") {
+        return None;
+    }
+    if is_word(first, "--graph") && is_word(second, "--wanted") {
+        return Some(Learn {
+            graph: one,
+            wanted: other,
+        });
+    }
+    if is_word(first, "--wanted") && is_word(second, "--graph") {
+        return Some(Learn {
+            graph: other,
+            wanted: one,
+        });
+    }
+    None
+}

@@ -1,0 +1,8 @@
+pub mod SameTerms
+pub mod Standing
+pub mod Orders
+pub mod Covered
+pub mod HeaderLines
+pub mod RowLines
+pub mod RowMappings
+pub mod TableTexts

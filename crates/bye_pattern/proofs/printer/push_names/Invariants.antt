@@ -1,0 +1,7 @@
+use Rattle.std.proofs.Common.{◌≡◌, ◌++◌, take, codes}
+use Rattle.std.specs.List.{flat_map}
+use Rattle.bye_pattern.specs.Printed.{triple_line, names_text}
+use Rattle.bye_pattern.proofs.printer.push_names.Given as goal
+
+abbrev pub invariant-loop-v : goal.invariant-loop-v
+invariant-loop-v l = l.out ≡ l.initial.out ++ names_text (take l.v-index l.vars)

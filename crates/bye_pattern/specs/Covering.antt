@@ -1,0 +1,18 @@
+-- Whether patterns contain a variable, as a test.
+use Rattle.std.specs.Prelude.{Bool, false, ◌||◌, List}
+use Rattle.std.specs.List.{list_any}
+use Rattle.std.specs.Str.{bytes_eq}
+use Rattle.bye_pattern.specs.declared.slot.Slot.{Slot}
+use Rattle.bye_pattern.specs.declared.slot.Slot.TheVariants.{Var, Const}
+use Rattle.bye_pattern.specs.Mappings.{Name}
+use Rattle.bye_pattern.specs.Patterns.{Pattern}
+
+abbrev pub is_named : Slot → Name → Bool
+is_named (Var v) name = bytes_eq v name
+is_named (Const c) name = false
+
+abbrev pub contains : Name → Pattern → Bool
+contains name p = is_named p.s name || is_named p.p name || is_named p.o name
+
+abbrev pub covers : List Pattern → Name → Bool
+covers ps name = list_any (contains name) ps

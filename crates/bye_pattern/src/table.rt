@@ -1,0 +1,158 @@
+ghost use Rattle.std.specs.Prelude.{◌≡◌, List, IfOk, IsErrOf};
+ghost use Rattle.std.specs.Str.{chars};
+ghost use Rattle.bye_pattern.specs.Mappings.{Pairs};
+ghost use Rattle.bye_pattern.specs.Tables.{TableValue, IsHeader, IsRows, IsTable, IsFirstTable, OneTable};
+
+use crate::cells::cells;
+use crate::header::header;
+use crate::row::Row;
+use bye_terms::{Cursor, Memory, Var, keep};
+use std::alloc::Global;
+use std::marker::Model;
+use std::str;
+
+/// A table: the names of its columns, and its rows in their order.
+#[derive(Debug, Drop)]
+pub struct Table {
+    vars: Vec<Var>,
+    rows: Vec<Row>,
+}
+
+impl Model for Table {
+    ghost use Rattle.bye_pattern.specs.Tables.{TableValue};
+
+    ghost Value = { TableValue };
+
+    ghost view = { λ t. record { header = t.vars.items; rows = t.rows.items } };
+}
+
+impl Table {
+    /// The names of the columns.
+    pub fn vars(&self) -> &[Var]
+        ensures { result.now ≡ self.now.header }
+    {
+        self.vars.as_slice()
+    }
+
+    /// The rows.
+    pub fn rows(&self) -> &[Row]
+        ensures { result.now ≡ self.now.rows }
+    {
+        self.rows.as_slice()
+    }
+}
+
+/// Why a table document was not read.
+#[derive(Debug, Drop)]
+pub enum TableErr {
+    NotFirstTable,
+    Memory,
+}
+
+impl From<Memory> for TableErr {
+    ghost use Rattle.bye_pattern.specs.declared.table.TableErr.TheVariants as faults;
+    ghost use Rattle.std.specs.Prelude.{◌≡◌};
+
+    ghost from_gives = { λ _ e. e ≡ faults.Memory };
+
+    fn from(_: Memory) -> Self {
+        TableErr::Memory
+    }
+}
+
+/// The rows whose lines the text is.
+fn read_rows(alloc: Global, vars: &[Var], mut rest: Cursor<'_>) -> Result<Vec<Row>, TableErr>
+    requires { IsHeader vars.now }
+    ensures found { IfOk result (λ rows. IsRows vars.now rest.entry rows.items) }
+    ensures none { IsErrOf result TableErr.NotFirstTable
+        → (rows : List Pairs) → IsRows vars.now rest.entry rows → ⊥ }
+{
+    let mut rows = Vec::new(alloc);
+    while !rest.is_empty() {
+        let Some(pairs) = cells(alloc, vars, &mut rest)? else {
+            return Err(TableErr::NotFirstTable);
+        };
+        keep(&mut rows, Row::new(pairs))?;
+    }
+    Ok(rows)
+}
+
+fn read_text(alloc: Global, text: &str) -> Result<Table, TableErr>
+    ensures found { IfOk result (λ table. IsTable (chars text.now) table) }
+    ensures none { IsErrOf result TableErr.NotFirstTable
+        → (table : TableValue) → IsTable (chars text.now) table → ⊥ }
+{
+    let mut rest = Cursor::new(text);
+    let Some(line) = rest.until('\n') else {
+        return Err(TableErr::NotFirstTable);
+    };
+    let Some(vars) = header(alloc, line)? else {
+        return Err(TableErr::NotFirstTable);
+    };
+    match read_rows(alloc, vars.as_slice(), rest) {
+        Ok(rows) => Ok(Table { vars, rows }),
+        Err(fault) => Err(fault),
+    }
+}
+
+/// The table that a document of the first form is.
+pub fn read_table(alloc: Global, bytes: &[u8]) -> Result<Table, TableErr>
+    ensures found { IfOk result (λ table. IsFirstTable bytes.now table) }
+    ensures none { IsErrOf result TableErr.NotFirstTable
+        → (table : TableValue) → IsFirstTable bytes.now table → ⊥ }
+{
+    match str::from_utf8(bytes) {
+        Ok(text) => read_text(alloc, text),
+        Err(_) => Err(TableErr::NotFirstTable),
+    }
+}
+
+/// A law of the definition: a document of the first form is one table.
+pub fn one_table()
+    ensures { OneTable }
+{}
+
+#[cfg(test)]
+mod tests {
+    use super::*;
+    use std::test::Fail;
+
+    /// How many names and rows the table has, where the document is of the first form.
+    fn size(alloc: Global, bytes: &[u8]) -> Result<Option<(usize, usize)>, TableErr> {
+        match read_table(alloc, bytes) {
+            Ok(table) => Ok(Some((table.vars().len(), table.rows().len()))),
+            Err(TableErr::NotFirstTable) => Ok(None),
+            Err(TableErr::Memory) => Err(TableErr::Memory),
+        }
+    }
+
+    #[test]
+    fn sizes_of_tables(rt: HostRuntime) -> Result<(), Fail> {
+        let cases: [(&[u8], Option<(usize, usize)>); 20] = [
+            (b"?x\n", Some((1, 0))),
+            (b"?x\t?y\n<a:1>\t<a:2>\n<a:1>\t<a:2>\n", Some((2, 2))),
+            (b"?Az_09\n<http://e/\xC3\xA9>\n", Some((1, 1))),
+            (b"?x\t?x\n", None),
+            (b"?x-y\n", None),
+            (b"?\n", None),
+            (b"?x\t?\n", None),
+            (b"x\n", None),
+            (b"\n", None),
+            (b"", None),
+            (b"?x", None),
+            (b"?x\t\n", None),
+            (b"?x\t?y\n<a:1>\n", None),
+            (b"?x\t?y\n<a:1>\t<a:2>\t<a:3>\n", None),
+            (b"?x\n<a:1>\t<a:2>\n", None),
+            (b"?x\n<a:1>", None),
+            (b"?x\n\n", None),
+            (b"?x\n\"1\"\n", None),
+            (b"?x\r\n<a:1>\r\n", None),
+            (b"?x\n<a:\xC3>\n", None),
+        ];
+        for (index, (bytes, want)) in cases.iter().enumerate() {
+            assert_eq!(rt; size(rt.alloc(), bytes)?, *want, "at {index}");
+        }
+        Ok(())
+    }
+}

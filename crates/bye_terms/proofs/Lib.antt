@@ -1,0 +1,6 @@
+pub mod Members
+pub mod Tests
+pub mod Texts
+pub mod Orders
+pub mod Escapes
+pub mod Readings

@@ -1,0 +1,21 @@
+-- Tests that are true or false.
+use Rattle.std.proofs.Common.{◌≡◌, refl, Bool, true, false, cond, ◌&&◌, ◌||◌, ◌⊎◌, inl, inr, sym, ◌∙◌, ap}
+
+pub bool_cases : (b : Bool) → (b ≡ true) ⊎ (b ≡ false)
+bool_cases true = inl refl
+bool_cases false = inr refl
+
+pub both_parts : (a b : Bool) → (a && b) ≡ true → (a ≡ true) × (b ≡ true)
+both_parts true b e = (refl, e)
+both_parts false b e = cc
+
+pub both : (a b : Bool) → a ≡ true → b ≡ true → (a && b) ≡ true
+both a b x y = (λ i. x i && y i)
+
+pub one_part : (a b : Bool) → (a || b) ≡ true → (a ≡ true) ⊎ (b ≡ true)
+one_part true b e = inl refl
+one_part false b e = inr e
+
+pub second : (a b : Bool) → b ≡ true → (a || b) ≡ true
+second true b e = refl
+second false b e = e

@@ -1,0 +1,19 @@
+use Rattle.std.proofs.Common.{◌≡◌, ℕ, Bool, List, [], ◌∷◌, IsTrue, ◌↔◌, length, ◌==◌, sym, ◌∙◌, ap, arith}
+use Rattle.std.specs.Str.{chars, IsUtf8, encode_utf8_all}
+use Rattle.std.proofs.lemmas.Str.{chars-nil, encodes-chars}
+use Rattle.bye_terms.proofs.cursor.Cursor.is_empty.Goals as goal
+
+some_bytes : (b : ℕ) (bytes : List ℕ) → [] ≡ b ∷ bytes → ⊥
+some_bytes b bytes e = cc
+
+emptied : (old bytes : List ℕ) (r : Bool) → chars bytes ≡ old → IsUtf8 bytes → r ≡ (length bytes == 0) → IsTrue r ↔ (old ≡ [])
+emptied old [] r v u e = (λ _. sym v ∙ chars-nil, λ _. e)
+emptied old (b ∷ bytes) r v u e = (
+  λ h. absurd (grind arith),
+  λ h. absurd (some_bytes b bytes (sym (ap encode_utf8_all (v ∙ h)) ∙ encodes-chars (b ∷ bytes) u)),
+)
+
+pub returns : goal.returns
+returns c =
+    let u = rw c.as_bytes-bytes.ensures.value at c.as_bytes-bytes.ensures.utf8 in
+    emptied _ _ _ c.self.view_is u c.is_empty.ensures

@@ -1,0 +1,9 @@
+use Rattle.std.proofs.Common.{◌≡◌, length}
+use Rattle.bye_terms.specs.Names as spec
+use Rattle.bye_terms.proofs.rules.is_after_letter.Given as goal
+
+abbrev pub invariant-loop-c : goal.invariant-loop-c
+invariant-loop-c l = spec.is_after_letter l.rest ≡ spec.is_after_letter l.initial.rest
+
+abbrev pub decreases-loop-c : goal.decreases-loop-c
+decreases-loop-c l = length l.rest

@@ -1,0 +1,10 @@
+pub mod Ascii
+pub mod Characters
+pub mod Names
+pub mod Pieces
+pub mod Reading
+pub mod Spellings
+pub mod Terms
+pub mod Literals
+pub mod Iris
+pub mod Members
