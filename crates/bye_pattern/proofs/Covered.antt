@@ -1,24 +1,21 @@
 -- What the tests of meeting and of covering tell, and what the learner's answer is.
-use Rattle.std.proofs.Common.{◌≡◌, refl, ℕ, ◌<◌, length, get_or, arith, Bool, true, false, cond, not, ◌&&◌, ◌||◌, List, [], ◌∷◌, ◌++◌, map, Option, Some, None, ◌⊎◌, inl, inr, ⊎_elim, sym, ◌∙◌, ap, subst, ◌↔◌, IsSome}
+use Rattle.std.proofs.Common.{◌≡◌, refl, ◌<◌, length, get_or, arith, Bool, true, false, cond, not, ◌||◌, List, [], ◌∷◌, ◌++◌, map, Option, Some, None, inl, inr, ⊎_elim, sym, ◌∙◌, ap, subst, ◌↔◌, IsSome}
 use Rattle.std.specs.Prelude.{find}
 use Rattle.std.specs.List.{AllByRecursion, filter, list_any, list_all}
-use Rattle.std.specs.Option.{option_map}
-use Rattle.std.specs.Str.{bytes_eq}
 use Rattle.std.proofs.lemmas.Slice.Eq.{bytes_eq-Decides}
 use Rattle.bye_terms.specs.declared.term.Term.{Term}
 use Rattle.bye_terms.specs.Terms.{Statement, IsTriple}
 use Rattle.bye_terms.specs.Members.{In, EachOnce}
-use Rattle.bye_terms.proofs.Tests.{bool_cases, both_parts, both, one_part, second}
+use Rattle.bye_terms.proofs.Tests.{both_parts, both, one_part, second}
 use Rattle.bye_terms.proofs.Members.{in_cases, in_left, in_right, all_in, all_from}
 use Rattle.bye_pattern.specs.declared.slot.Slot.{Slot}
 use Rattle.bye_pattern.specs.declared.slot.Slot.TheVariants.{Var, Const}
 use Rattle.bye_pattern.specs.Mappings.{Name, Mapping, Pairs, row_mapping, NoRepeat, Binds}
 use Rattle.bye_pattern.specs.Patterns.{Pattern, slot_under, slot_vars, vars, Becomes, Meets}
-use Rattle.bye_pattern.specs.Conditions.{same_term}
 use Rattle.bye_pattern.specs.Candidates.{candidates}
 use Rattle.bye_pattern.specs.Meeting as test
 use Rattle.bye_pattern.specs.Covering.{is_named, contains, covers}
-use Rattle.bye_pattern.specs.Common.{IsCommon, IsCovered, IsUncovered}
+use Rattle.bye_pattern.specs.Common.{IsCovered, IsUncovered}
 use Rattle.bye_pattern.specs.TrialOrder.{IsInTrialOrder}
 use Rattle.bye_pattern.specs.Tables.{TableValue}
 use Rattle.bye_pattern.specs.Learning.{wanted_of, IsWithin, IsStrongest, IsFirstUncovered}

@@ -1,18 +1,17 @@
 -- The order of trial: it is total, a sort brings it about, and it stays where an element is left out.
-use Rattle.std.proofs.Common.{◌≡◌, refl, ℕ, zero, suc, ◌+◌, ◌<◌, ◌≤◌, Bool, true, false, cond, not, ◌&&◌, ◌||◌, List, [], ◌∷◌, ◌++◌, length, get_or, drop, drop-cons, IsTrue, ◌↔◌, sym, ◌∙◌, ap, subst, arith, append_assoc, Ordering, Less, Equal, Greater, inl, inr, ⊎_elim}
+use Rattle.std.proofs.Common.{◌≡◌, refl, ℕ, suc, ◌+◌, ◌<◌, Bool, true, false, cond, not, ◌&&◌, ◌||◌, List, [], ◌∷◌, ◌++◌, length, get_or, drop, drop-cons, IsTrue, ◌↔◌, sym, ◌∙◌, ap, subst, arith, append_assoc, Ordering, Less, Equal, Greater, inl, inr, ⊎_elim}
 use Rattle.std.specs.List.{AllByRecursion, Contains}
 use Rattle.std.specs.List.Sorted.{IsSortedBy}
 use Rattle.std.specs.Str.{bytes_eq}
 use Rattle.std.specs.Cmp.{IsTotalOrder, IsStrictWeakOrder}
-use Rattle.std.specs.Cmp.Lexicographic.{slice_cmp}
-use Rattle.std.specs.Ordering.{nat_cmp, is_lt, is_gt, ordering_reverse}
+use Rattle.std.specs.Ordering.{is_lt, is_gt, ordering_reverse}
 use Rattle.std.proofs.lemmas.Cmp.{upto, then_total, on_total, nat_cmp_total, nat_list_cmp_total}
 use Rattle.bye_terms.specs.Members.{In, EachOnce}
 use Rattle.bye_terms.proofs.Members.{in_cases, in_left, in_right, in_contains, contains_in}
 use Rattle.bye_pattern.specs.declared.slot.Slot.{Slot}
 use Rattle.bye_pattern.specs.declared.slot.Slot.TheVariants.{Var, Const}
 use Rattle.bye_pattern.specs.Patterns.{Pattern, vars, slot_vars}
-use Rattle.bye_pattern.specs.Ranking.{variable_count, one_if, is_same_var}
+use Rattle.bye_pattern.specs.Ranking.{variable_count, one_if}
 use Rattle.bye_pattern.specs.TrialOrder.{distinct_count, line_bytes, trial_cmp, IsInTrialOrder}
 
 -- three places, of which some are variables

@@ -1,10 +1,8 @@
 -- The tests of terms and names by equality.
-use Rattle.std.proofs.Common.{◌≡◌, refl, ℕ, Bool, true, false, List, Option, Some, None, sym, ◌∙◌, ap}
-use Rattle.std.specs.Str.{bytes_eq}
+use Rattle.std.proofs.Common.{◌≡◌, refl, ℕ, true, List, Option, Some, None, ap}
 use Rattle.std.proofs.lemmas.Slice.Eq.{bytes_eq-Decides}
 use Rattle.bye_terms.specs.declared.term.Term.{Term}
 use Rattle.bye_terms.specs.declared.term.Term.TheVariants.{Iri, Blank, Lit}
-use Rattle.bye_terms.specs.Literals.{LiteralValue}
 use Rattle.bye_terms.proofs.Tests.{both_parts, both}
 use Rattle.bye_pattern.specs.Conditions.{same_term, same_option}
 

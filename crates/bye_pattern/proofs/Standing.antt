@@ -1,6 +1,6 @@
 -- The candidates are the patterns of the class that become a triple of the graph under the row.
-use Rattle.std.proofs.Common.{◌≡◌, refl, ℕ, Bool, true, false, cond, ◌&&◌, ◌||◌, List, [], ◌∷◌, ◌++◌, Option, Some, None, ◌⊎◌, inl, inr, ⊎_elim, sym, ◌∙◌, ap, subst}
-use Rattle.std.specs.List.{flat_map, list_any}
+use Rattle.std.proofs.Common.{◌≡◌, refl, Bool, true, false, cond, ◌&&◌, ◌||◌, List, [], ◌∷◌, ◌++◌, Option, Some, None, inl, inr, ⊎_elim, sym, ◌∙◌, ap, subst}
+use Rattle.std.specs.List.{flat_map}
 use Rattle.std.specs.Str.{bytes_eq}
 use Rattle.std.proofs.lemmas.Slice.Eq.{bytes_eq-Decides}
 use Rattle.bye_terms.specs.declared.term.Term.{Term}
@@ -12,11 +12,11 @@ use Rattle.bye_terms.proofs.Tests.{bool_cases, both_parts, both, one_part, secon
 use Rattle.bye_terms.proofs.Members.{in_cases, in_left, in_right, in_flat, flat_in, all_in}
 use Rattle.bye_pattern.specs.declared.slot.Slot.{Slot}
 use Rattle.bye_pattern.specs.declared.slot.Slot.TheVariants.{Var, Const}
-use Rattle.bye_pattern.specs.Mappings.{Name, Mapping, Pairs, row_mapping, NoRepeat, Binds}
+use Rattle.bye_pattern.specs.Mappings.{Name, Mapping, Pairs, row_mapping, NoRepeat}
 use Rattle.bye_pattern.specs.Patterns.{Pattern, slot_under, slot_vars, vars, Becomes, Meets, IsNamed, is_place}
 use Rattle.bye_pattern.specs.Conditions.{same_term}
 use Rattle.bye_pattern.specs.Classes.{IsClassTriple}
-use Rattle.bye_pattern.specs.Candidates.{var_slot, const_slot, slots, is_var, of_slots, offered, with_objects, with_predicates, with_subjects, of_terms, touches, of_statement, candidates}
+use Rattle.bye_pattern.specs.Candidates.{var_slot, const_slot, slots, is_var, of_slots, offered, with_objects, with_predicates, of_terms, touches, of_statement, candidates}
 use Rattle.bye_pattern.proofs.SameTerms.{terms_same, same_self}
 
 Some-same : {s t : Term} → ◌≡◌ {A = Option Term} (Some s) (Some t) → s ≡ t

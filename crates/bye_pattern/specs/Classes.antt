@@ -1,5 +1,5 @@
 -- The class of one conjunction: queries of one node.
-use Rattle.std.specs.Prelude.{◌≡◌, Bool, true, List, [], ◌↔◌}
+use Rattle.std.specs.Prelude.{◌≡◌, true, [], ◌↔◌}
 use Rattle.std.specs.List.{AllByRecursion}
 use Rattle.bye_terms.specs.Members.{In}
 use Rattle.bye_pattern.specs.declared.cond.Cond.{Cond}
@@ -8,7 +8,7 @@ use Rattle.bye_terms.specs.Terms.{is_blank}
 use Rattle.std.specs.Prelude.{false}
 use Rattle.bye_pattern.specs.Mappings.{Name}
 use Rattle.bye_pattern.specs.Patterns.{Pattern, vars, all_vars, IsNamed}
-use Rattle.bye_pattern.specs.Trees.{Tree, node, Forest, leaf, Select, IsWellDesigned, own_triples, own_conds}
+use Rattle.bye_pattern.specs.Trees.{Tree, node, leaf, Select, IsWellDesigned, own_triples, own_conds}
 
 -- a triple of the class: it has a variable, and no constant is blank
 pub record IsClassTriple (p : Pattern) : Type 0 where

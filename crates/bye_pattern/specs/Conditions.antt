@@ -1,16 +1,15 @@
 -- Conditions and their three values (SPARQL 1.1 Query, sections 17.2 and 17.4): true, false and, as None, an error.
-use Rattle.std.specs.Prelude.{◌≡◌, ℕ, Bool, true, false, not, ◌&&◌, List, [], ◌∷◌, ◌++◌, Option, Some, None, is_some}
+use Rattle.std.specs.Prelude.{◌≡◌, ℕ, Bool, true, false, not, ◌&&◌, List, [], ◌∷◌, Option, Some, None, is_some}
 use Rattle.std.specs.Str.{bytes_eq}
 use Rattle.std.specs.List.{AllByRecursion}
 use Rattle.bye_terms.specs.declared.term.Term.{Term}
 use Rattle.bye_terms.specs.declared.term.Term.TheVariants.{Iri, Blank, Lit}
-use Rattle.bye_terms.specs.Literals.{LiteralValue}
 use Rattle.bye_pattern.specs.declared.slot.Slot.{Slot}
 use Rattle.bye_pattern.specs.declared.slot.Slot.TheVariants.{Var, Const}
 use Rattle.bye_pattern.specs.declared.cond.Cond.{Cond}
 use Rattle.bye_pattern.specs.declared.cond.Cond.TheVariants as conds
 use Rattle.bye_pattern.specs.Mappings.{Name, Mapping}
-use Rattle.bye_pattern.specs.Patterns.{slot_under, slot_vars}
+use Rattle.bye_pattern.specs.Patterns.{slot_under}
 
 -- what a kind test asks for
 pub data Kind : Type 0 where

@@ -1,5 +1,5 @@
 -- A node of the program, read as plain data.
-use Rattle.std.specs.Prelude.{List, [], ◌∷◌, map}
+use Rattle.std.specs.Prelude.{List, [], ◌∷◌}
 use Rattle.bye_pattern.specs.declared.node.Node.{Node}
 use Rattle.bye_pattern.specs.declared.node.Node.TheOpen.{Node-F}
 use Rattle.bye_pattern.specs.declared.node.Node.TheFolds.{fold-Node}

@@ -1,5 +1,5 @@
 -- Triple patterns (SPARQL 1.1 Query, section 18.1.5) and what becomes of them under a mapping (section 18.3).
-use Rattle.std.specs.Prelude.{◌≡◌, ℕ, Bool, true, false, List, [], ◌∷◌, ◌++◌, Option, Some}
+use Rattle.std.specs.Prelude.{◌≡◌, Bool, true, false, List, [], ◌∷◌, ◌++◌, Option, Some}
 use Rattle.bye_terms.specs.declared.term.Term.{Term}
 use Rattle.bye_terms.specs.Terms.{Statement, is_iri_term, is_blank}
 use Rattle.bye_terms.specs.Members.{In}

@@ -1,10 +1,9 @@
 -- The written text of a query, as the list of its characters. In a document it stands in UTF-8.
-use Rattle.std.specs.Prelude.{ℕ, Bool, true, false, cond, List, [], ◌∷◌, ◌++◌, codes}
+use Rattle.std.specs.Prelude.{ℕ, Bool, true, false, List, [], ◌++◌, codes}
 use Rattle.std.specs.List.{flat_map}
 use Rattle.bye_terms.specs.Spellings.{term_text}
 use Rattle.bye_pattern.specs.declared.slot.Slot.{Slot}
 use Rattle.bye_pattern.specs.declared.slot.Slot.TheVariants.{Var, Const}
-use Rattle.bye_pattern.specs.declared.cond.Cond.{Cond}
 use Rattle.bye_pattern.specs.Mappings.{Name}
 use Rattle.bye_pattern.specs.Patterns.{Pattern}
 use Rattle.bye_pattern.specs.Conditions.{Kind, AnIri, ABlank, ALiteral, Expr, IsBound, Same, KindOf, Not, And, Or, cond_expr}

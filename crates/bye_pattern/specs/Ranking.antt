@@ -1,8 +1,8 @@
 -- How many distinct variables three places have, as a sum.
-use Rattle.std.specs.Prelude.{ℕ, ◌+◌, Bool, true, false, cond, not, ◌&&◌}
+use Rattle.std.specs.Prelude.{ℕ, ◌+◌, Bool, false, cond, not, ◌&&◌}
 use Rattle.std.specs.Str.{bytes_eq}
 use Rattle.bye_pattern.specs.declared.slot.Slot.{Slot}
-use Rattle.bye_pattern.specs.declared.slot.Slot.TheVariants.{Var, Const}
+use Rattle.bye_pattern.specs.declared.slot.Slot.TheVariants.{Var}
 use Rattle.bye_pattern.specs.Candidates.{is_var}
 
 abbrev pub is_same_var : Slot → Slot → Bool

@@ -1,5 +1,5 @@
 -- Trees of groups as plain data, their translation to the algebra (SPARQL 1.1 Query, section 18.2), and well-designed trees.
-use Rattle.std.specs.Prelude.{◌≡◌, Bool, true, List, [], ◌∷◌, ◌++◌, ◌⊎◌, map}
+use Rattle.std.specs.Prelude.{Bool, true, List, [], ◌++◌, ◌⊎◌, map}
 use Rattle.std.specs.List.{AllByRecursion}
 use Rattle.bye_terms.specs.Members.{In}
 use Rattle.bye_pattern.specs.declared.cond.Cond.{Cond}

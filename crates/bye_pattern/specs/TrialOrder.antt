@@ -1,5 +1,5 @@
 -- The order in which triple patterns are tried, and written: by how many distinct variables they have, and then by the bytes of their lines.
-use Rattle.std.specs.Prelude.{◌≡◌, ℕ, ◌+◌, false, cond, List, [], ◌∷◌, ◌++◌}
+use Rattle.std.specs.Prelude.{◌≡◌, ℕ, ◌+◌, false, cond, List, [], ◌∷◌}
 use Rattle.std.specs.Str.{encode_utf8_all}
 use Rattle.std.specs.List.{AllByRecursion}
 use Rattle.std.specs.Cmp.Lexicographic.{slice_cmp}

@@ -1,6 +1,5 @@
 -- Escapes of characters, and of the bytes that spell them.
-use Rattle.std.proofs.Common.{◌≡◌, refl, ℕ, ◌<◌, ◌≤◌, ◌+◌, zero, suc, Bool, true, false, cond, ◌==◌, List, [], ◌∷◌, ◌++◌, length, get_or, codes, sym, ◌∙◌, ap, arith, ◌⊎◌, inl, inr, ⊎_elim, Option, Some, None, subst, append_assoc}
-use Rattle.std.specs.List.{flat_map}
+use Rattle.std.proofs.Common.{◌≡◌, refl, ℕ, ◌<◌, ◌≤◌, suc, Bool, true, false, cond, ◌==◌, List, [], ◌∷◌, ◌++◌, length, get_or, codes, sym, ◌∙◌, ap, arith, ◌⊎◌, ⊎_elim, Some, None, append_assoc}
 use Rattle.std.specs.Str.{encode_utf8_all, bytes_eq}
 use Rattle.std.specs.Char.{encode_utf8}
 use Rattle.std.proofs.lemmas.Str.{encodes-append, encode_ascii, inside_one, encodes-IsAscii, encodes_same}
@@ -9,8 +8,8 @@ use Rattle.std.proofs.lemmas.List.Concat.{flat_map-append}
 use Rattle.std.proofs.lemmas.Bool.{cases_lt}
 use Rattle.std.proofs.lemmas.Bool.Decides.{nat_tests}
 use Rattle.std.proofs.lemmas.Slice.Eq.{bytes_eq-Decides}
-use Rattle.bye_terms.specs.Spellings.{escaped_char, escaped, suffix_text, literal_text, literal_bytes}
-use Rattle.bye_terms.specs.Literals.{LiteralValue, xsd_string, is_xsd_string}
+use Rattle.bye_terms.specs.Spellings.{escaped_char, escaped, suffix_text, literal_bytes}
+use Rattle.bye_terms.specs.Literals.{LiteralValue, is_xsd_string}
 use Rattle.bye_terms.specs.Ascii.{is_ascii}
 use Rattle.bye_terms.proofs.Texts.{ascii_at}
 

@@ -1,5 +1,5 @@
 -- Elements of lists.
-use Rattle.std.proofs.Common.{◌≡◌, refl, ℕ, zero, suc, ◌+◌, ◌<◌, List, [], ◌∷◌, ◌++◌, ◌⊎◌, inl, inr, ⊎_elim, subst, sym, ap, length, get_or, map, ◌↔◌, arith}
+use Rattle.std.proofs.Common.{◌≡◌, refl, ℕ, zero, suc, ◌<◌, List, [], ◌∷◌, ◌++◌, ◌⊎◌, inl, inr, ⊎_elim, subst, sym, length, get_or, arith}
 use Rattle.std.specs.List.{flat_map, Contains, AllByRecursion}
 use Rattle.bye_terms.specs.Members.{In}
 

@@ -1,5 +1,5 @@
 -- The order of lists that are compared a part at a time.
-use Rattle.std.proofs.Common.{◌≡◌, refl, ℕ, List, [], ◌∷◌, ◌++◌, length, min, ◌-◌, ◌+◌, ◌<◌, ◌≤◌, take, drop, append_assoc, Ordering, Less, Equal, Greater, sym, ◌∙◌, ap, arith, subst}
+use Rattle.std.proofs.Common.{◌≡◌, refl, ℕ, List, [], ◌∷◌, ◌++◌, length, min, ◌≤◌, take, drop, append_assoc, Ordering, Less, Equal, Greater, sym, ◌∙◌, ap, arith}
 use Rattle.std.specs.Cmp.Lexicographic.{slice_cmp}
 use Rattle.std.specs.Ordering.{nat_cmp, ordering_then}
 use Rattle.std.specs.Cmp.{nat_cmp_is}

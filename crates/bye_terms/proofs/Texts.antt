@@ -1,11 +1,11 @@
 -- Texts, their characters and their bytes.
-use Rattle.std.proofs.Common.{◌≡◌, List, [], ◌∷◌, ℕ, ◌<◌, zero, suc, IsTrue, Bool, sym, ◌∙◌, ap, true, ◌↔◌, subst, nat_lt, get_or, arith}
+use Rattle.std.proofs.Common.{◌≡◌, List, [], ◌∷◌, ℕ, ◌<◌, zero, suc, IsTrue, Bool, sym, ◌∙◌, ap, true, ◌↔◌, nat_lt, get_or, arith}
 use Rattle.std.specs.List.{list_all}
 use Rattle.std.specs.Str.{chars, encode_utf8_all, all_scalars, bytes_eq}
 use Rattle.std.specs.String.{string_bytes}
 use Rattle.std.specs.declared.string.String.{String}
 use Rattle.std.proofs.lemmas.Bool.{ltb-true}
-use Rattle.std.proofs.lemmas.Str.{IsUtf8-string_bytes, IsUtf8-encode, encodes-chars, scalars-chars, chars-encodes, chars-IsAscii, chars_past_char, chars-nil}
+use Rattle.std.proofs.lemmas.Str.{IsUtf8-string_bytes, IsUtf8-encode, encodes-chars, chars-encodes, chars-IsAscii, chars_past_char, chars-nil}
 use Rattle.std.proofs.lemmas.List.{append-nil}
 use Rattle.std.specs.Char.{IsScalar, encode_utf8}
 use Rattle.std.proofs.lemmas.Slice.Eq.{bytes_eq-Decides}

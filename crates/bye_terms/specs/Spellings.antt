@@ -1,5 +1,5 @@
 -- The written spelling of terms in N-Triples (RDF 1.1 N-Triples, section 4, "Canonical Form", with the short form of xsd:string).
-use Rattle.std.specs.Prelude.{ℕ, Bool, cond, ◌==◌, List, [], ◌∷◌, ◌++◌, Option, Some, None, codes}
+use Rattle.std.specs.Prelude.{ℕ, cond, ◌==◌, List, [], ◌∷◌, ◌++◌, Option, Some, None, codes}
 use Rattle.std.specs.List.{flat_map}
 use Rattle.std.specs.Str.{encode_utf8_all}
 use Rattle.bye_terms.specs.Literals.{LiteralValue, is_xsd_string}

@@ -1,5 +1,5 @@
-use Rattle.std.proofs.Common.{◌≡◌, ◌∷◌, [], List, codes, sym, ◌∙◌}
-use Rattle.bye_cli.specs.Words.{Word, IsLearn}
+use Rattle.std.proofs.Common.{◌≡◌, ◌∷◌, [], List, ◌∙◌}
+use Rattle.bye_cli.specs.Words.{Word}
 use Rattle.bye_cli.proofs.Asked.{five_words, graph_first, wanted_first}
 use Rattle.bye_cli.proofs.words.read_words.Goals as goal
 

@@ -1,4 +1,4 @@
-use Rattle.std.proofs.Common.{◌≡◌, ◌++◌, take}
+use Rattle.std.proofs.Common.{◌≡◌, take}
 use Rattle.bye_pattern.specs.Candidates as spec
 use Rattle.bye_pattern.proofs.candidates.candidates.Given as goal
 

@@ -1,4 +1,4 @@
-use Rattle.std.proofs.Common.{◌≡◌, refl, not, Some, sym, ◌∙◌, ap}
+use Rattle.std.proofs.Common.{refl, not, Some, sym, ◌∙◌, ap}
 use Rattle.std.specs.Prelude.{find}
 use Rattle.bye_pattern.specs.Mappings.{Name}
 use Rattle.bye_pattern.specs.Covering.{covers}

@@ -1,12 +1,10 @@
-use Rattle.std.proofs.Common.{◌≡◌, ◌<◌, length, List, sym, ◌∙◌, subst, Result, Ok, Err}
-use Rattle.std.specs.List.{filter, AllByRecursion}
+use Rattle.std.proofs.Common.{◌<◌, length, List, sym, ◌∙◌, subst, Result, Ok, Err}
+use Rattle.std.specs.List.{filter}
 use Rattle.std.specs.Result.{IfOk}
 use Rattle.bye_terms.specs.Members.{In}
-use Rattle.bye_terms.specs.Terms.{IsTriple}
 use Rattle.bye_pattern.specs.Mappings.{Pairs}
 use Rattle.bye_pattern.specs.Candidates.{candidates}
 use Rattle.bye_pattern.specs.Meeting.{meets_all}
-use Rattle.bye_pattern.specs.Learning.{IsWithin, IsStrongest}
 use Rattle.bye_pattern.proofs.Covered.{strongest, first_row}
 use Rattle.bye_pattern.proofs.learner.strongest.Goals as goal
 

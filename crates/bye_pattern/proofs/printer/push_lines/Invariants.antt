@@ -1,4 +1,4 @@
-use Rattle.std.proofs.Common.{◌≡◌, ◌++◌, take, codes}
+use Rattle.std.proofs.Common.{◌≡◌, ◌++◌, take}
 use Rattle.std.specs.List.{flat_map}
 use Rattle.bye_pattern.specs.Printed.{root_line}
 use Rattle.bye_pattern.proofs.printer.push_lines.Given as goal

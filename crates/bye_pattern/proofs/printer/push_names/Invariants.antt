@@ -1,6 +1,5 @@
-use Rattle.std.proofs.Common.{◌≡◌, ◌++◌, take, codes}
-use Rattle.std.specs.List.{flat_map}
-use Rattle.bye_pattern.specs.Printed.{triple_line, names_text}
+use Rattle.std.proofs.Common.{◌≡◌, ◌++◌, take}
+use Rattle.bye_pattern.specs.Printed.{names_text}
 use Rattle.bye_pattern.proofs.printer.push_names.Given as goal
 
 abbrev pub invariant-loop-v : goal.invariant-loop-v

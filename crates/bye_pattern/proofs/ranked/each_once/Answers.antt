@@ -1,5 +1,4 @@
 use Rattle.std.proofs.Common.{◌≡◌, ◌∷◌, ◌++◌, [], ◌+◌, drop, sym, ◌∙◌, subst, ap}
-use Rattle.bye_pattern.specs.Patterns.{Pattern}
 use Rattle.bye_pattern.proofs.Orders.{IsOnce, once_kept, once_left, element_at, is_absent, is_present}
 use Rattle.bye_pattern.proofs.ranked.each_once.Goals as goal
 use Rattle.bye_pattern.proofs.ranked.each_once.Goals.{then-not-contains+in_ok-copy+in_ok-keep, else-not-contains}

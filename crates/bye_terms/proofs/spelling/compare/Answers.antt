@@ -1,4 +1,4 @@
-use Rattle.std.proofs.Common.{◌≡◌, ◌++◌, ◌≤◌, refl, List, ℕ, [], length, take, drop, min, sym, ◌∙◌, ap, arith, Ordering, Equal, append_assoc}
+use Rattle.std.proofs.Common.{◌≡◌, ◌++◌, ◌≤◌, List, ℕ, [], length, take, drop, min, sym, ◌∙◌, arith, Ordering, Equal, append_assoc}
 use Rattle.std.specs.Cmp.Lexicographic.{slice_cmp}
 use Rattle.std.specs.Ordering.{nat_cmp}
 use Rattle.bye_terms.specs.Pieces.{left_of}

@@ -1,6 +1,4 @@
-use Rattle.std.proofs.Common.{◌≡◌, List, ℕ, IsTrue, sym, ◌∙◌, ap, true}
-use Rattle.std.specs.Str.{chars, encode_utf8_all, all_scalars}
-use Rattle.std.specs.String.{string_bytes}
+use Rattle.std.proofs.Common.{sym}
 use Rattle.std.proofs.lemmas.Str.{IsUtf8-string_bytes, encodes-chars, scalars-chars}
 use Rattle.bye_terms.proofs.text.Text.as_str.Goals as goal
 
