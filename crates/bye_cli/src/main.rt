@@ -13,15 +13,24 @@ use bye_io::{RealErr, RealFolder, RealOut};
 use bye_terms::Text;
 use program::run_program;
 use status::Status;
+use std::io::ErrorKind;
 use std::process::ExitCode;
 use std::{env, io};
+
+/// The status where the system gave no words: memory was refused for them, or one is no UTF-8.
+fn without_words(kind: ErrorKind) -> Status {
+    match kind {
+        ErrorKind::OutOfMemory => Status::Memory,
+        _ => Status::Words,
+    }
+}
 
 fn main(rt: HostRuntime) -> ExitCode {
     let alloc = rt.alloc();
     let mut words = Vec::new(alloc);
     let args = match env::args(&rt) {
         Ok(args) => args,
-        Err(_) => return ExitCode::from(Status::Words as u8),
+        Err(err) => return ExitCode::from(without_words(err.kind()) as u8),
     };
     for arg in args.skip(1) {
         let Ok(word) = Text::copy_of(alloc, arg.as_str()) else {

@@ -12,7 +12,7 @@ use Rattle.bye_terms.specs.Spellings.{term_text}
 use Rattle.bye_terms.specs.Terms.{Statement}
 use Rattle.bye_terms.specs.declared.term.Term.{Term}
 use Rattle.bye_terms.specs.declared.term.Term.TheVariants.{Iri, Blank, Lit}
-use Rattle.bye_terms.proofs.Readings.{read_both, some_same, after_takes, iri_takes, iri_again}
+use Rattle.bye_terms.proofs.Readings.{read_both, some_same, after_takes, iri_takes, iri_again, named}
 use Rattle.bye_ntriples.specs.FirstForm.{HasIris, line_text, IsLines, IsFirstForm}
 use Rattle.bye_ntriples.specs.Reading.{three_iris, spaced_iri_at, line_at}
 
@@ -71,12 +71,6 @@ three_again s p o rest x y z =
     let r1 = 60 ∷ (p ++ 62 ∷ 32 ∷ r2) in
     ap (λ xs. line_at xs) (regroup s p o rest)
     ∙ read_on _ _ _ _ (spaced_again s r1 x) (read_on _ _ _ _ (spaced_again p r2 y) (read_on _ _ _ _ (spaced_again o r3 z) refl))
-
--- a term that is an IRI
-named : (term : Term) → IsIri term → (text : List ℕ) × (term ≡ Iri text) × (is_iri text ≡ true)
-named (Iri text) h = (text, refl, h)
-named (Blank label) h = absurd h
-named (Lit literal) h = absurd h
 
 pub line_again : (t : Statement) (rest : List ℕ) → HasIris t → line_at (line_text t ++ rest) ≡ Some (t, rest)
 line_again t rest is =

@@ -5,13 +5,14 @@ use Rattle.std.specs.Str.{NonePass}
 use Rattle.std.proofs.lemmas.Grind.{flat_map-append}
 use Rattle.std.proofs.lemmas.List.{append-nil}
 use Rattle.bye_terms.specs.Characters.{is_letter, is_digit, is_low_base, is_high_base, is_name_start, is_name_mark, is_name_part}
-use Rattle.bye_terms.specs.Members.{In}
+use Rattle.bye_terms.specs.Members.{In, EachOnce}
+use Rattle.bye_terms.proofs.Members.{once_more}
 use Rattle.bye_terms.specs.Names.{is_name}
 use Rattle.bye_terms.specs.Reading.{◌>>=◌, after_at, until_at}
 use Rattle.bye_terms.proofs.Tests.{bool_cases, both_parts, both, second}
 use Rattle.bye_terms.proofs.Readings.{read_both, some_same, after_takes, after_again, until_takes, until_again, until_none}
 use Rattle.bye_pattern.specs.Mappings.{Name}
-use Rattle.bye_pattern.specs.Tables.{AllDistinct, is_header_char, is_header_name, IsHeaderName, tabbed, name_text}
+use Rattle.bye_pattern.specs.Tables.{is_header_char, is_header_name, IsHeaderName, tabbed, name_text}
 use Rattle.bye_pattern.specs.Reading.{name_of, IsAdded, IsRefused, IsHeaderLine}
 
 -- a name of a header is a name of a variable
@@ -37,33 +38,11 @@ header_name_is_name (c ∷ cs) e =
     both (is_name_start c) (list_all is_name_part cs) (char_starts c w.0) (all_parts cs w.1)
 
 -- members
-pub in_from_contains : {X : Type 0} (xs : List X) (x : X) → Contains xs x → In xs x
-in_from_contains [] x (k, inside, e) = absurd (omega arith)
-in_from_contains (y ∷ ys) x (zero, inside, e) = inl e
-in_from_contains (y ∷ ys) x (suc k, inside, e) = inr (in_from_contains ys x (k, omega arith, e))
-
-pub contains_from_in : {X : Type 0} (xs : List X) (x : X) → In xs x → Contains xs x
-contains_from_in [] x h = absurd h
-contains_from_in (y ∷ ys) x (inl e) = (0, omega arith, e)
-contains_from_in (y ∷ ys) x (inr h) = let w = contains_from_in ys x h in (suc w.0, omega (arith, w.1), w.2)
-
-in_later : {X : Type 0} (xs ys : List X) (x : X) → In (xs ++ ys) x → In xs x ⊎ In ys x
-in_later [] ys x h = inr h
-in_later (z ∷ xs) ys x (inl e) = inl (inl e)
-in_later (z ∷ xs) ys x (inr h) = ⊎_elim (λ a. inl (inr a)) (λ b. inr b) (in_later xs ys x h)
-
 in_seam : {X : Type 0} (xs ys : List X) (x : X) → In (xs ++ x ∷ ys) x
 in_seam [] ys x = inl refl
 in_seam (z ∷ xs) ys x = inr (in_seam xs ys x)
 
-distinct_push : (xs : List Name) (x : Name) → AllDistinct xs → (In xs x → ⊥) → AllDistinct (xs ++ x ∷ [])
-distinct_push [] x d h = ((λ a. a), d)
-distinct_push (y ∷ xs) x (f, d) h = (
-  λ a. ⊎_elim f (λ b. ⊎_elim (λ e. h (inl (sym e))) (λ n. absurd n) b) (in_later xs (x ∷ []) y a),
-  distinct_push xs x d (λ a. h (inr a)),
-)
-
-distinct_twice : (xs ys : List Name) (x : Name) → AllDistinct (xs ++ x ∷ ys) → In xs x → ⊥
+distinct_twice : (xs ys : List Name) (x : Name) → EachOnce (xs ++ x ∷ ys) → In xs x → ⊥
 distinct_twice [] ys x d h = h
 distinct_twice (z ∷ xs) ys x (f, d) (inl e) = f (subst (In (xs ++ x ∷ ys)) (sym e) (in_seam xs ys x))
 distinct_twice (z ∷ xs) ys x (f, d) (inr h) = distinct_twice xs ys x d h
@@ -155,7 +134,7 @@ agree (t ∷ ts) (u ∷ w ∷ us) rest (h, tv) (k, uv) some e =
     (more.0, more.1, more.2, (λ i. sym same i ∷ more.3 i), more.4)
 
 refused_first : (ts vs : List Name) (rest field after : List ℕ) → until_at 9 rest ≡ Some (field, after) → IsRefused ts field
-    → (vs ≡ [] → ⊥) → AllByRecursion IsHeaderName vs → rest ≡ tabbed (map name_text vs) → AllDistinct (ts ++ vs) → ⊥
+    → (vs ≡ [] → ⊥) → AllByRecursion IsHeaderName vs → rest ≡ tabbed (map name_text vs) → EachOnce (ts ++ vs) → ⊥
 refused_first ts [] rest field after u r some all e d = some refl
 refused_first ts (v ∷ []) rest field after u r some (is, all) e d = not_some _ _ (last_until v is) (ap (until_at 9) (sym e) ∙ u)
 refused_first ts (v ∷ w ∷ vs) rest field after u r some (is, all) e d =
@@ -163,7 +142,7 @@ refused_first ts (v ∷ w ∷ vs) rest field after u r some (is, all) e d =
     distinct_twice ts (w ∷ vs) v d (r v (ap name_of (ap (λ r. r.0) read) ∙ name_again v is))
 
 refused_last : (ts vs : List Name) (rest : List ℕ) → until_at 9 rest ≡ None → IsRefused ts rest
-    → (vs ≡ [] → ⊥) → AllByRecursion IsHeaderName vs → rest ≡ tabbed (map name_text vs) → AllDistinct (ts ++ vs) → ⊥
+    → (vs ≡ [] → ⊥) → AllByRecursion IsHeaderName vs → rest ≡ tabbed (map name_text vs) → EachOnce (ts ++ vs) → ⊥
 refused_last ts [] rest u r some all e d = some refl
 refused_last ts (v ∷ []) rest u r some (is, all) e d = distinct_twice ts [] v d (r v (ap name_of e ∙ name_again v is))
 refused_last ts (v ∷ w ∷ vs) rest u r some (is, all) e d = not_some _ _ u (ap (until_at 9) e ∙ more_until v w vs is)
@@ -172,13 +151,13 @@ pub not_header_first : (line : List ℕ) (ts : List Name) (rest field after : Li
     → until_at 9 rest ≡ Some (field, after) → IsRefused ts field → (names : List Name) → IsHeaderLine line names → ⊥
 not_header_first line ts rest field after e tv u r names h =
     let w = agree ts names rest tv h.named.valid h.named.some (sym e ∙ h.text) in
-    refused_first ts w.0 rest field after u r w.1 w.2 w.4 (subst AllDistinct w.3 h.named.distinct)
+    refused_first ts w.0 rest field after u r w.1 w.2 w.4 (subst EachOnce w.3 h.named.distinct)
 
 pub not_header_last : (line : List ℕ) (ts : List Name) (rest field : List ℕ) → line ≡ flat_map field_text ts ++ rest → AllByRecursion IsHeaderName ts
     → until_at 9 rest ≡ None → field ≡ rest → IsRefused ts field → (names : List Name) → IsHeaderLine line names → ⊥
 not_header_last line ts rest field e tv u same r names h =
     let w = agree ts names rest tv h.named.valid h.named.some (sym e ∙ h.text) in
-    refused_last ts w.0 rest u (subst (IsRefused ts) same r) w.1 w.2 w.4 (subst AllDistinct w.3 h.named.distinct)
+    refused_last ts w.0 rest u (subst (IsRefused ts) same r) w.1 w.2 w.4 (subst EachOnce w.3 h.named.distinct)
 
 -- one more name
 pub fields_push : (line : List ℕ) (ts more : List Name) (rest field after : List ℕ) → line ≡ flat_map field_text ts ++ rest → until_at 9 rest ≡ Some (field, after)
@@ -193,8 +172,8 @@ fields_push line ts more rest field after e u a =
 pub added_valid : (ts more : List Name) (field : List ℕ) → IsAdded ts field more → AllByRecursion IsHeaderName ts → AllByRecursion IsHeaderName more
 added_valid ts more field a tv = subst (AllByRecursion IsHeaderName) (sym a.items) (valid_push ts a.name tv (name_takes field a.name a.read).1)
 
-pub added_distinct : (ts more : List Name) (field : List ℕ) → IsAdded ts field more → AllDistinct ts → AllDistinct more
-added_distinct ts more field a d = subst AllDistinct (sym a.items) (distinct_push ts a.name d a.fresh)
+pub added_distinct : (ts more : List Name) (field : List ℕ) → IsAdded ts field more → EachOnce ts → EachOnce more
+added_distinct ts more field a d = subst EachOnce (sym a.items) (once_more ts a.name d a.fresh)
 
 last_joined : (ts : List Name) (name : Name) → flat_map field_text ts ++ name_text name ≡ tabbed (map name_text (ts ++ name ∷ []))
 last_joined [] name = refl
@@ -202,7 +181,7 @@ last_joined (t ∷ []) name = ap (λ xs. xs ++ name_text name) (append-nil (fiel
 last_joined (t ∷ u ∷ ts) name =
     append_assoc (field_text t) (flat_map field_text (u ∷ ts)) (name_text name) ∙ ap (λ xs. field_text t ++ xs) (last_joined (u ∷ ts) name)
 
-pub finished : (line : List ℕ) (ts more : List Name) (rest field : List ℕ) → line ≡ flat_map field_text ts ++ rest → AllByRecursion IsHeaderName ts → AllDistinct ts
+pub finished : (line : List ℕ) (ts more : List Name) (rest field : List ℕ) → line ≡ flat_map field_text ts ++ rest → AllByRecursion IsHeaderName ts → EachOnce ts
     → field ≡ rest → IsAdded ts field more → IsHeaderLine line more
 finished line ts more rest field e tv d same a = record {
   named = record {

@@ -7,7 +7,7 @@ use Rattle.std.specs.Cmp.{IsTotalOrder, IsStrictWeakOrder}
 use Rattle.std.specs.Ordering.{is_lt, is_gt, ordering_reverse}
 use Rattle.std.proofs.lemmas.Cmp.{upto, then_total, on_total, nat_cmp_total, nat_list_cmp_total}
 use Rattle.bye_terms.specs.Members.{In, EachOnce}
-use Rattle.bye_terms.proofs.Members.{in_cases, in_left, in_right, in_contains, contains_in}
+use Rattle.bye_terms.proofs.Members.{in_cases, in_left, in_right, in_contains, contains_in, once_more}
 use Rattle.bye_pattern.specs.declared.slot.Slot.{Slot}
 use Rattle.bye_pattern.specs.declared.slot.Slot.TheVariants.{Var, Const}
 use Rattle.bye_pattern.specs.Patterns.{Pattern, vars, slot_vars}
@@ -108,13 +108,6 @@ all_middle P (x ∷ xs) y zs h = (h.0, all_middle P xs y zs h.1)
 order_middle : (xs : List Pattern) (y : Pattern) (zs : List Pattern) → IsInTrialOrder (xs ++ y ∷ zs) → IsInTrialOrder (xs ++ zs)
 order_middle [] y zs h = h.1
 order_middle (x ∷ xs) y zs h = (all_middle (λ q. is_lt (trial_cmp q x) ≡ false) xs y zs h.0, order_middle xs y zs h.1)
-
-once_more : {X : Type 0} (xs : List X) (x : X) → EachOnce xs → (In xs x → ⊥) → EachOnce (xs ++ x ∷ [])
-once_more [] x once new = ((λ h. h), tt)
-once_more (y ∷ xs) x once new = (
-  (λ h. ⊎_elim once.0 (λ k. ⊎_elim (λ e. new (inl (sym e))) (λ n. n) k) (in_cases xs (x ∷ []) y h)),
-  once_more xs x once.1 (λ h. new (inr h)),
-)
 
 -- what was kept of all, each once and in order, with what is still to come
 pub record IsOnce (all out rest : List Pattern) : Type 0 where

@@ -10,7 +10,7 @@ use Rattle.bye_terms.specs.Reading.{◌>>=◌, after_at, iri_at}
 use Rattle.bye_terms.specs.Spellings.{term_text}
 use Rattle.bye_terms.specs.declared.term.Term.{Term}
 use Rattle.bye_terms.specs.declared.term.Term.TheVariants.{Iri, Blank, Lit}
-use Rattle.bye_terms.proofs.Readings.{read_both, some_same, after_takes, after_again, iri_takes, iri_again}
+use Rattle.bye_terms.proofs.Readings.{read_both, some_same, after_takes, after_again, iri_takes, iri_again, named}
 use Rattle.bye_pattern.specs.Mappings.{Name, Pairs}
 use Rattle.bye_pattern.specs.Tables.{names_of, IsRowOf, IsRows, tabbed, row_text}
 use Rattle.bye_pattern.specs.Reading.{end_of, cells_at}
@@ -93,11 +93,6 @@ first_row_takes name (next ∷ names) text r e =
 pub row_takes : (header : List Name) (text : List ℕ) (r : Pairs × List ℕ) → (header ≡ [] → ⊥) → cells_at header text ≡ Some r → (text ≡ row_text r.0 ++ r.1) × IsRowOf header r.0
 row_takes [] text r some e = absurd (some refl)
 row_takes (name ∷ names) text r some e = first_row_takes name names text r e
-
-named : (term : Term) → IsIri term → (text : List ℕ) × (term ≡ Iri text) × (is_iri text ≡ true)
-named (Iri text) h = (text, refl, h)
-named (Blank label) h = absurd h
-named (Lit literal) h = absurd h
 
 ended : (rest : List ℕ) → cells_at [] rest ≡ Some ([], rest)
 unfolding cells_at

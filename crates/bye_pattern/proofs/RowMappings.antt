@@ -3,13 +3,11 @@ use Rattle.std.proofs.Common.{◌≡◌, refl, ℕ, Bool, true, false, cond, Lis
 use Rattle.std.specs.List.{AllByRecursion}
 use Rattle.std.specs.Str.{bytes_eq}
 use Rattle.std.proofs.lemmas.Slice.Eq.{bytes_eq-Decides}
-use Rattle.bye_terms.specs.Members.{In}
+use Rattle.bye_terms.proofs.Tests.{not_both}
+use Rattle.bye_terms.specs.Members.{In, EachOnce}
 use Rattle.bye_terms.specs.declared.term.Term.{Term}
 use Rattle.bye_pattern.specs.Mappings.{Name, Pairs, Binds, row_mapping, NoRepeat}
-use Rattle.bye_pattern.specs.Tables.{TableValue, AllDistinct, names_of, IsRowOf, IsFirstTable}
-
-not_both : (b : Bool) → b ≡ true → b ≡ false → ⊥
-not_both b e h = cc
+use Rattle.bye_pattern.specs.Tables.{TableValue, names_of, IsRowOf, IsFirstTable}
 
 not_some : IsSome {T = Term} None → ⊥
 not_some h = cc
@@ -30,13 +28,13 @@ none_from : {A : Type 0} (o : Option A) → (IsSome o → ⊥) → o ≡ None
 none_from None h = refl
 none_from (Some x) h = absurd (h refl)
 
-no_repeat : (row : Pairs) → AllDistinct (names_of row) → NoRepeat row
+no_repeat : (row : Pairs) → EachOnce (names_of row) → NoRepeat row
 no_repeat [] d = tt
 no_repeat (e ∷ row) (f, d) = (none_from (row_mapping row e.0) (λ h. f ((binds row e.0).0 h)), no_repeat row d)
 
 -- a row of a header of distinct names repeats no name
-pub row_repeats_none : (header : List Name) (row : Pairs) → AllDistinct header → IsRowOf header row → NoRepeat row
-row_repeats_none header row d is = no_repeat row (subst AllDistinct (sym is.names) d)
+pub row_repeats_none : (header : List Name) (row : Pairs) → EachOnce header → IsRowOf header row → NoRepeat row
+row_repeats_none header row d is = no_repeat row (subst EachOnce (sym is.names) d)
 
 -- and binds exactly the names of the header
 pub row_binds : (header : List Name) (row : Pairs) → IsRowOf header row → (v : Name) → Binds (row_mapping row) v ↔ In header v
@@ -55,5 +53,5 @@ rows_bind bytes table is row h =
     let one = each (IsRowOf table.header) table.rows is.written.filled.cells row h in
     (row_repeats_none table.header row is.written.named.distinct one, row_binds table.header row one)
 
-pub names_differ : (bytes : List ℕ) (table : TableValue) → IsFirstTable bytes table → AllDistinct table.header
+pub names_differ : (bytes : List ℕ) (table : TableValue) → IsFirstTable bytes table → EachOnce table.header
 names_differ bytes table is = is.written.named.distinct

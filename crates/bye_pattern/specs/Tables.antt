@@ -4,7 +4,7 @@ use Rattle.std.specs.List.{flat_map, list_all, AllByRecursion}
 use Rattle.std.specs.Str.{encode_utf8_all, all_scalars}
 use Rattle.bye_terms.specs.Characters.{is_letter_or_digit}
 use Rattle.bye_terms.specs.Iris.{IsIri}
-use Rattle.bye_terms.specs.Members.{In}
+use Rattle.bye_terms.specs.Members.{EachOnce}
 use Rattle.bye_terms.specs.Spellings.{term_text}
 use Rattle.bye_pattern.specs.Mappings.{Name, Pairs}
 
@@ -12,11 +12,6 @@ use Rattle.bye_pattern.specs.Mappings.{Name, Pairs}
 pub record TableValue : Type 0 where
   pub header : List Name
   pub rows : List Pairs
-
--- no name stands twice
-abbrev pub AllDistinct : List Name → Type 0
-AllDistinct [] = Unit {0}
-AllDistinct (name ∷ names) = (In names name → ⊥) × AllDistinct names
 
 -- a character of a name in a header: A to Z, a to z, 0 to 9 or `_`
 abbrev pub is_header_char : ℕ → Bool
@@ -34,7 +29,7 @@ IsHeaderName name = is_header_name name ≡ true
 pub record IsHeader (names : List Name) : Type 0 where
   pub some : names ≡ [] → ⊥
   pub valid : AllByRecursion IsHeaderName names
-  pub distinct : AllDistinct names
+  pub distinct : EachOnce names
 
 -- the names that a row binds, in its order
 abbrev pub names_of : Pairs → List Name

@@ -1,7 +1,7 @@
 -- Elements of lists.
 use Rattle.std.proofs.Common.{◌≡◌, refl, ℕ, zero, suc, ◌<◌, List, [], ◌∷◌, ◌++◌, ◌⊎◌, inl, inr, ⊎_elim, subst, sym, length, get_or, arith}
 use Rattle.std.specs.List.{flat_map, Contains, AllByRecursion}
-use Rattle.bye_terms.specs.Members.{In}
+use Rattle.bye_terms.specs.Members.{In, EachOnce}
 
 pub in_cases : {X : Type 0} (xs ys : List X) (x : X) → In (xs ++ ys) x → In xs x ⊎ In ys x
 in_cases [] ys x h = inr h
@@ -49,3 +49,11 @@ contained (y ∷ xs) x (suc k) l e = inr (contained xs x k (omega arith) e)
 
 pub contains_in : {X : Type 0} (xs : List X) (x : X) → Contains xs x → In xs x
 contains_in xs x h = contained xs x h.0 h.1 h.2
+
+-- one more element, which is not there yet
+pub once_more : {X : Type 0} (xs : List X) (x : X) → EachOnce xs → (In xs x → ⊥) → EachOnce (xs ++ x ∷ [])
+once_more [] x once new = ((λ h. h), tt)
+once_more (y ∷ xs) x once new = (
+  (λ h. ⊎_elim once.0 (λ k. ⊎_elim (λ e. new (inl (sym e))) (λ n. n) k) (in_cases xs (x ∷ []) y h)),
+  once_more xs x once.1 (λ h. new (inr h)),
+)

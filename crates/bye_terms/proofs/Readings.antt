@@ -6,7 +6,10 @@ use Rattle.std.specs.Char.{encode_utf8}
 use Rattle.std.specs.Str.{chars, IsUtf8, NonePass, NoCharPasses, encode_utf8_all, all_scalars}
 use Rattle.std.proofs.lemmas.Str.{IsUtf8-past_char, chars_past_char, chars_from_encodes, chars-encodes, scalars-chars}
 use Rattle.bye_terms.specs.Characters.{is_letter, is_scheme_char, is_iri_char}
+use Rattle.bye_terms.specs.Iris.{IsIri}
 use Rattle.bye_terms.specs.Names.{is_iri, is_after_letter}
+use Rattle.bye_terms.specs.declared.term.Term.{Term}
+use Rattle.bye_terms.specs.declared.term.Term.TheVariants.{Iri, Blank, Lit}
 use Rattle.bye_terms.specs.Reading.{◌>>=◌, after_at, until_at, as_iri, iri_at}
 use lib.Utf8.{scalar}
 use Rattle.bye_terms.proofs.Tests.{bool_cases, both_parts, both, one_part}
@@ -134,3 +137,9 @@ iri_again iri rest is =
     ap (λ o. o >>= (λ inner. until_at 62 inner >>= (λ parts. as_iri parts.0 >>= (λ read. Some (read, parts.1))))) (after_again 60 (iri ++ 62 ∷ rest))
     ∙ ap (λ o. o >>= (λ parts. as_iri parts.0 >>= (λ read. Some (read, parts.1)))) (until_again 62 iri rest (iri_free iri is))
     ∙ ap (λ t. cond t (Some iri) None >>= (λ read. Some (read, rest))) is
+
+-- a term that is an IRI, with its text
+pub named : (term : Term) → IsIri term → (text : List ℕ) × (term ≡ Iri text) × (is_iri text ≡ true)
+named (Iri text) h = (text, refl, h)
+named (Blank label) h = absurd h
+named (Lit literal) h = absurd h

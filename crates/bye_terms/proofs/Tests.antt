@@ -19,3 +19,6 @@ one_part false b e = inr e
 pub second : (a b : Bool) → b ≡ true → (a || b) ≡ true
 second true b e = refl
 second false b e = e
+
+pub not_both : (b : Bool) → b ≡ true → b ≡ false → ⊥
+not_both b e h = cc

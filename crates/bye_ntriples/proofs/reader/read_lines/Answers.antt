@@ -1,5 +1,6 @@
 use Rattle.std.proofs.Common.{◌≡◌, List, ℕ, Bool, true, false, ◌++◌, ◌<◌, length, sym, ap, subst, arith}
 use Rattle.std.specs.List.{AllByRecursion}
+use Rattle.bye_terms.proofs.Tests.{not_both}
 use Rattle.bye_terms.specs.Terms.{Statement}
 use Rattle.bye_ntriples.specs.FirstForm.{HasIris, line_text}
 use Rattle.bye_ntriples.proofs.Lines.{line_takes, line_length, lines_push, iris_push, no_other}
@@ -7,9 +8,6 @@ use Rattle.bye_ntriples.proofs.reader.read_lines.Goals as goal
 
 shorter : (rest after : List ℕ) (t : Statement) → rest ≡ line_text t ++ after → length after < length rest
 shorter rest after t e = let l = line_length t after in let n = ap length e in omega (arith, l, n)
-
-not_both : (b : Bool) → b ≡ true → b ≡ false → ⊥
-not_both b e h = cc
 
 pub loop-rest-smaller : goal.loop-rest-smaller
 loop-rest-smaller c =

@@ -4,19 +4,17 @@ use Rattle.bye_terms.specs.Members.{In}
 use Rattle.bye_terms.proofs.Readings.{some_same}
 use Rattle.bye_pattern.specs.Mappings.{Name}
 use Rattle.bye_pattern.specs.Reading.{name_of, IsRefused}
-use Rattle.bye_pattern.proofs.HeaderLines.{in_from_contains, contains_from_in}
+use Rattle.bye_terms.proofs.Members.{in_contains, contains_in}
+use Rattle.bye_terms.proofs.Tests.{not_both}
 use Rattle.bye_pattern.proofs.header.add.Goals as goal
 
 twice : (names slice : List Name) (field : List ℕ) (var : Name) (o : Option Name) (has : Bool) → o ≡ Some var → o ≡ name_of field → slice ≡ names
     → (IsTrue has → Contains slice var) → has ≡ true → IsRefused names field
 twice names slice field var o has is e same h true_is name read =
-    subst (In names) (some_same (sym is ∙ e ∙ read)) (subst (λ xs. In xs var) same (in_from_contains slice var (h true_is)))
-
-not_both : (b : Bool) → b ≡ true → b ≡ false → ⊥
-not_both b e h = cc
+    subst (In names) (some_same (sym is ∙ e ∙ read)) (subst (λ xs. In xs var) same (contains_in slice var (h true_is)))
 
 fresh : (names slice : List Name) (var : Name) (has : Bool) → slice ≡ names → (Contains slice var → IsTrue has) → has ≡ false → In names var → ⊥
-fresh names slice var has same h is at = not_both has (h (contains_from_in slice var (subst (λ xs. In xs var) (sym same) at))) is
+fresh names slice var has same h is at = not_both has (h (in_contains slice var (subst (λ xs. In xs var) (sym same) at))) is
 
 pub returns-then-has-clause-refused : goal.returns-then-has-clause-refused
 returns-then-has-clause-refused c ok = twice _ _ _ _ _ _ c.in-Some.is c.in_ok-var.ensures c.as_slice.ensures.value c.has.ensures.0 c.if-has.true

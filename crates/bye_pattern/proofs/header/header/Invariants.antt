@@ -1,7 +1,8 @@
 use Rattle.std.proofs.Common.{◌≡◌, ◌++◌, length}
 use Rattle.std.specs.List.{AllByRecursion, flat_map}
 use Rattle.std.specs.Str.{chars}
-use Rattle.bye_pattern.specs.Tables.{IsHeaderName, AllDistinct}
+use Rattle.bye_pattern.specs.Tables.{IsHeaderName}
+use Rattle.bye_terms.specs.Members.{EachOnce}
 use Rattle.bye_pattern.proofs.HeaderLines.{field_text}
 use Rattle.bye_pattern.proofs.header.header.Given as goal
 
@@ -9,7 +10,7 @@ abbrev pub invariant-loop-field : goal.invariant-loop-field
 invariant-loop-field l = record {
   line : chars l.line ≡ flat_map field_text l.vars.items ++ l.rest;
   valid : AllByRecursion IsHeaderName l.vars.items;
-  distinct : AllDistinct l.vars.items;
+  distinct : EachOnce l.vars.items;
 }
 
 abbrev pub decreases-loop-field : goal.decreases-loop-field

@@ -1,4 +1,5 @@
 use Rattle.std.proofs.Common.{◌≡◌, List, ℕ, Bool, true, false, [], ◌∷◌, ◌++◌, ◌<◌, length, sym, ◌∙◌, ap, arith}
+use Rattle.bye_terms.proofs.Tests.{not_both}
 use Rattle.bye_pattern.specs.Mappings.{Pairs}
 use Rattle.bye_pattern.specs.Tables.{row_text}
 use Rattle.bye_pattern.proofs.RowLines.{row_takes, row_length, rows_push, filled_push, no_other_rows}
@@ -7,9 +8,6 @@ use Rattle.bye_pattern.proofs.table.read_rows.Goals as goal
 
 shorter : (rest after : List ℕ) (row : Pairs) → rest ≡ row_text row ++ after → length after < length rest
 shorter rest after row e = let l = row_length row after in let n = ap length e in omega (arith, l, n)
-
-not_both : (b : Bool) → b ≡ true → b ≡ false → ⊥
-not_both b e h = cc
 
 pushed : (rows more : List Pairs) (row pairs : Pairs) → more ≡ rows ++ row ∷ [] → row ≡ pairs → more ≡ rows ++ pairs ∷ []
 pushed rows more row pairs e same = e ∙ ap (λ r. rows ++ r ∷ []) same
