@@ -28,14 +28,3 @@ impl Node {
         }
     }
 }
-
-#[cfg(test)]
-mod tests {
-    use super::*;
-
-    #[test]
-    fn groups_triples(rt: HostRuntime) {
-        let node = Node::of_triples(rt.alloc(), Vec::new(rt.alloc()));
-        assert_eq!(rt; node.triples.len() + node.conds.len() + node.children.len(), 0);
-    }
-}
