@@ -1,5 +1,5 @@
 -- What the words name, and what was read.
-use Rattle.std.proofs.Common.{◌≡◌, refl, ℕ, ◌<◌, ◌≤◌, List, [], ◌∷◌, length, get_or, codes, inl, inr, ⊎_elim, sym, ap, arith, true, Option}
+use Rattle.std.proofs.Common.{◌≡◌, refl, ℕ, ◌<◌, ◌≤◌, List, [], ◌∷◌, length, get_or, codes, inl, inr, ⊎_elim, sym, ap, arith, true}
 use Rattle.std.specs.List.{AllByRecursion}
 use Rattle.bye_terms.specs.declared.term.Term.{Term}
 use Rattle.bye_terms.specs.declared.term.Term.TheVariants.{Iri, Blank, Lit}
@@ -11,24 +11,23 @@ use Rattle.bye_pattern.specs.Tables.{TableValue}
 use Rattle.bye_pattern.specs.Learning.{IsWithin}
 use Rattle.bye_pattern.proofs.RowMappings.{rows_bind}
 use Rattle.bye_cli.specs.Words.{Word, IsLearn}
-use Rattle.bye_cli.specs.Problem.{HoldsGraph, HoldsTable, IsAsked, IsRead, IsWritten, IsAnswer}
+use Rattle.bye_cli.proofs.Commands.{graph_is_not_wanted}
+use Rattle.bye_cli.specs.Problem.{IsGiven, IsAsked, IsRead, IsWritten, IsAnswer}
+use Rattle.bye_cli.specs.Documents.{Files, HasVerdict, Graph, Wanted, Triples, Rows, Good}
 use Rattle.bye_cli.specs.declared.answer.Answer.{Answer}
 use Rattle.bye_cli.specs.declared.answer.Answer.TheVariants.{Query, Refusal}
 
-pub five_words : (words : List Word) (a b d e f : Word) → 5 ≤ length words → length words < 6
+pub five_words : (words : List Word) (a b d e f : Word) → length words ≡ 5
     → a ≡ get_or words 0 a → b ≡ get_or words 1 b → d ≡ get_or words 2 d → e ≡ get_or words 3 e → f ≡ get_or words 4 f → words ≡ a ∷ b ∷ d ∷ e ∷ f ∷ []
-five_words (v ∷ w ∷ x ∷ y ∷ z ∷ []) a b d e f low high i j k l m = sym (λ n. i n ∷ j n ∷ k n ∷ l n ∷ m n ∷ [])
-five_words words a b d e f low high i j k l m = absurd (omega arith)
-
-graph_is_not_wanted : codes "--graph" ≡ codes "--wanted" → ⊥
-graph_is_not_wanted e = let c : ◌≡◌ {A = ℕ} 103 119 = ap (λ text. get_or text 2 0) e in omega arith
+five_words (v ∷ w ∷ x ∷ y ∷ z ∷ []) a b d e f five i j k l m = sym (λ n. i n ∷ j n ∷ k n ∷ l n ∷ m n ∷ [])
+five_words words a b d e f five i j k l m = absurd (omega arith)
 
 wanted_is_not_graph : codes "--wanted" ≡ codes "--graph" → ⊥
 wanted_is_not_graph e = graph_is_not_wanted (sym e)
 
 pub graph_first : (words : List Word) (graph wanted : Word) → words ≡ codes "learn" ∷ codes "--graph" ∷ graph ∷ codes "--wanted" ∷ wanted ∷ [] → IsLearn words graph wanted
 graph_first words graph wanted e = record {
-  options = (codes "--graph", graph) ∷ (codes "--wanted", wanted) ∷ [];
+  settings = (codes "--graph", graph) ∷ (codes "--wanted", wanted) ∷ [];
   line = record {
     parts = e;
     named = (inl refl, (inr (inl refl), tt));
@@ -40,7 +39,7 @@ graph_first words graph wanted e = record {
 
 pub wanted_first : (words : List Word) (graph wanted : Word) → words ≡ codes "learn" ∷ codes "--wanted" ∷ wanted ∷ codes "--graph" ∷ graph ∷ [] → IsLearn words graph wanted
 wanted_first words graph wanted e = record {
-  options = (codes "--wanted", wanted) ∷ (codes "--graph", graph) ∷ [];
+  settings = (codes "--wanted", wanted) ∷ (codes "--graph", graph) ∷ [];
   line = record {
     parts = e;
     named = (inr (inl refl), (inl refl, tt));
@@ -65,14 +64,15 @@ triples_from_iris [] h = tt
 triples_from_iris (t ∷ triples) h = ((subject_from_iri t.s h.0.subject, predicate_from_iri t.p h.0.predicate), triples_from_iris triples h.1)
 
 -- documents of the first forms are read as the learner takes them
-pub is_read : (files : Option (List ℕ → Option (List ℕ))) (graph_name wanted_name : Word) (graph : List Statement) (wanted : TableValue)
-    → HoldsGraph files graph_name graph → HoldsTable files wanted_name wanted → IsRead graph wanted
-is_read files graph_name wanted_name graph wanted g w = record {
-  triples = triples_from_iris graph g.read.written.iris;
-  within = all_from (IsWithin wanted.header) wanted.rows (λ row h v binds. ((rows_bind w.bytes wanted w.read row h).1 v).0 binds);
-}
+pub is_read : (files : Files) (words : List Word) (graph : List Statement) (wanted : TableValue) → IsGiven files words graph wanted → IsRead graph wanted
+is_read files words graph wanted given =
+    let read = given.wanted_held.judged.1 in
+    record {
+      triples = triples_from_iris graph given.graph_held.judged.1.written.iris;
+      within = all_from (IsWithin wanted.header) wanted.rows (λ row h v binds. ((rows_bind given.wanted_held.bytes wanted read row h).1 v).0 binds);
+    }
 
-pub is_answer : (files : Option (List ℕ → Option (List ℕ))) (words : List Word) (graph : List Statement) (wanted : TableValue) (answer : Answer)
+pub is_answer : (files : Files) (words : List Word) (graph : List Statement) (wanted : TableValue) (answer : Answer)
     → IsAsked files words graph wanted → IsWritten graph wanted answer → IsAnswer files words answer
 is_answer files words graph wanted (Query text) asked (query, strongest, written) =
     record { graph = graph; wanted = wanted; asked = asked; query = query; strongest = strongest; written = written }

@@ -1,19 +1,83 @@
--- Documents that are read from a folder.
-use Rattle.std.specs.Prelude.{◌≡◌, ℕ, ◌<◌, List, Option, Some, None, ⊤, length, IsSomeAnd}
+-- The documents of a command, and what is to be said of their bytes.
+use Rattle.std.specs.Prelude.{◌≡◌, ℕ, ◌<◌, ◌≤◌, List, [], ◌∷◌, Option, Some, None, ⊤, length, ◌⊎◌, IsSomeAnd}
+use Rattle.bye_terms.specs.Terms.{Statement}
+use Rattle.bye_ntriples.specs.FirstForm.{IsFirstForm}
+use Rattle.bye_pattern.specs.Tables.{TableValue, IsFirstTable}
+use Rattle.bye_cli.specs.Words.{Word, Command, Learn}
+
+-- what a folder tells of its files: the bytes of each name
+abbrev pub Files : Type 0
+Files = Option (List ℕ → Option (List ℕ))
 
 -- where the folder tells its files, the one of that name has these bytes
-abbrev pub Holds : Option (List ℕ → Option (List ℕ)) → List ℕ → List ℕ → Type 0
+abbrev pub Holds : Files → Word → List ℕ → Type 0
 Holds None name bytes = ⊤
 Holds (Some files) name bytes = files name ≡ Some bytes
 
 -- where the folder tells its files, the one of that name has more than so many bytes
-abbrev pub HoldsLonger : Option (List ℕ → Option (List ℕ)) → List ℕ → ℕ → Type 0
+abbrev pub HoldsLonger : Files → Word → ℕ → Type 0
 HoldsLonger None name limit = ⊤
 HoldsLonger (Some files) name limit = IsSomeAnd (files name) (λ bytes. limit < length bytes)
 
--- the greatest number of bytes of a graph document, and of a table document
-abbrev pub graph_limit : ℕ
-graph_limit = 268435456
+-- the folder tells its files
+abbrev pub IsTold : Files → Type 0
+IsTold None = ⊥
+IsTold (Some files) = ⊤
 
-abbrev pub table_limit : ℕ
-table_limit = 67108864
+-- what a document is read as
+pub data Role : Type 0 where
+  Graph : Role
+  Wanted : Role
+
+-- a document: its role and its name
+abbrev pub Document : Type 0
+Document = Role × Word
+
+-- the documents of a command, in the order in which they are read
+abbrev pub due : Command → List Document
+due (Learn graph wanted) = (Graph, graph) ∷ (Wanted, wanted) ∷ []
+
+-- the greatest number of bytes of a document
+abbrev pub limit_of : Role → ℕ
+limit_of Graph = 268435456
+limit_of Wanted = 67108864
+
+-- what a document says
+pub data Value : Type 0 where
+  Triples : List Statement → Value
+  Rows : TableValue → Value
+
+-- the bytes are a document of the role's form, and say this
+abbrev pub Says : Role → List ℕ → Value → Type 0
+Says Graph bytes (Triples triples) = IsFirstForm bytes triples
+Says Graph bytes (Rows table) = ⊥
+Says Wanted bytes (Triples triples) = ⊥
+Says Wanted bytes (Rows table) = IsFirstTable bytes table
+
+-- the verdict on a document's bytes: they pass the limit, they are not of the form, or they say a value
+pub data Verdict : Type 0 where
+  TooLong : Verdict
+  Faulty : Verdict
+  Good : Value → Verdict
+
+abbrev pub IsVerdict : Role → List ℕ → Verdict → Type 0
+IsVerdict role bytes TooLong = limit_of role < length bytes
+IsVerdict role bytes Faulty = (length bytes ≤ limit_of role) × ((value : Value) → Says role bytes value → ⊥)
+IsVerdict role bytes (Good value) = (length bytes ≤ limit_of role) × Says role bytes value
+
+-- the verdict on the bytes that the document has
+pub record HasVerdict (files : Files) (d : Document) (verdict : Verdict) : Type 0 where
+  pub bytes : List ℕ
+  pub held : Holds files d.1 bytes
+  pub judged : IsVerdict d.0 bytes verdict
+
+-- the document is one of these, and each one before it says a value
+abbrev pub Reaches : Files → List Document → Document → Type 0
+Reaches files [] e = ⊥
+Reaches files (d ∷ ds) e = (d ≡ e) ⊎ ((value : Value) × HasVerdict files d (Good value) × Reaches files ds e)
+
+-- some document of these is reached and has this verdict
+pub record Stops (files : Files) (ds : List Document) (verdict : Verdict) : Type 0 where
+  pub at : Document
+  pub reached : Reaches files ds at
+  pub has : HasVerdict files at verdict

@@ -2,3 +2,4 @@ pub mod Words
 pub mod Documents
 pub mod Problem
 pub mod Statuses
+pub mod Causes

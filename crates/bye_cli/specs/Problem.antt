@@ -1,43 +1,32 @@
 -- What `learn` is asked and what it writes.
-use Rattle.std.specs.Prelude.{◌≡◌, ℕ, ◌<◌, ◌≤◌, List, ◌++◌, ◌⊎◌, Option, length, codes}
+use Rattle.std.specs.Prelude.{◌≡◌, ℕ, ◌<◌, List, ◌++◌, ◌⊎◌, length, codes}
 use Rattle.std.specs.List.{AllByRecursion}
 use Rattle.bye_terms.specs.Terms.{Statement, IsTriple}
-use Rattle.bye_ntriples.specs.FirstForm.{IsFirstForm}
 use Rattle.bye_pattern.specs.Mappings.{Name}
 use Rattle.bye_pattern.specs.Trees.{Select}
 use Rattle.bye_pattern.specs.Printed.{query_text}
-use Rattle.bye_pattern.specs.Tables.{TableValue, IsFirstTable}
+use Rattle.bye_pattern.specs.Tables.{TableValue}
 use Rattle.bye_pattern.specs.Learning.{IsWithin, IsStrongestQuery, IsFirstUncovered}
 use Rattle.bye_cli.specs.Words.{Word, IsLearn}
-use Rattle.bye_cli.specs.Documents.{Holds, graph_limit, table_limit}
+use Rattle.bye_cli.specs.Documents.{Files, Graph, Wanted, Triples, Rows, Good, HasVerdict}
 use Rattle.bye_cli.specs.declared.answer.Answer.{Answer}
 use Rattle.bye_cli.specs.declared.answer.Answer.TheVariants as answers
 
--- where the folder tells its files, the one of that name is a graph of these triples, within the limit
-pub record HoldsGraph (files : Option (List ℕ → Option (List ℕ))) (name : Word) (graph : List Statement) : Type 0 where
-  pub bytes : List ℕ
-  pub held : Holds files name bytes
-  pub within : length bytes ≤ graph_limit
-  pub read : IsFirstForm bytes graph
-
--- where the folder tells its files, the one of that name is this table, within the limit
-pub record HoldsTable (files : Option (List ℕ → Option (List ℕ))) (name : Word) (table : TableValue) : Type 0 where
-  pub bytes : List ℕ
-  pub held : Holds files name bytes
-  pub within : length bytes ≤ table_limit
-  pub read : IsFirstTable bytes table
-
--- the words name a graph and a table with a row
-pub record IsAsked (files : Option (List ℕ → Option (List ℕ))) (words : List Word) (graph : List Statement) (wanted : TableValue) : Type 0 where
+-- the words name a graph and a table, which the documents of these names say, within their limits
+pub record IsGiven (files : Files) (words : List Word) (graph : List Statement) (wanted : TableValue) : Type 0 where
   pub graph_name : Word
   pub wanted_name : Word
   pub learn : IsLearn words graph_name wanted_name
-  pub graph_held : HoldsGraph files graph_name graph
-  pub wanted_held : HoldsTable files wanted_name wanted
+  pub graph_held : HasVerdict files (Graph, graph_name) (Good (Triples graph))
+  pub wanted_held : HasVerdict files (Wanted, wanted_name) (Good (Rows wanted))
+
+-- and the table has a row
+pub record IsAsked (files : Files) (words : List Word) (graph : List Statement) (wanted : TableValue) : Type 0 where
+  pub given : IsGiven files words graph wanted
   pub some_row : 0 < length wanted.rows
 
 -- the text of the query of all triple patterns that hold in every wanted row
-pub record IsLearnedText (files : Option (List ℕ → Option (List ℕ))) (words : List Word) (text : List ℕ) : Type 0 where
+pub record IsLearnedText (files : Files) (words : List Word) (text : List ℕ) : Type 0 where
   pub graph : List Statement
   pub wanted : TableValue
   pub asked : IsAsked files words graph wanted
@@ -49,7 +38,7 @@ pub record IsLearnedText (files : Option (List ℕ → Option (List ℕ))) (word
 abbrev pub uncovered_line : Name → List ℕ
 uncovered_line x = codes "uncovered ?" ++ x ++ codes "\n"
 
-pub record IsRefusalText (files : Option (List ℕ → Option (List ℕ))) (words : List Word) (text : List ℕ) : Type 0 where
+pub record IsRefusalText (files : Files) (words : List Word) (text : List ℕ) : Type 0 where
   pub graph : List Statement
   pub wanted : TableValue
   pub asked : IsAsked files words graph wanted
@@ -58,7 +47,7 @@ pub record IsRefusalText (files : Option (List ℕ → Option (List ℕ))) (word
   pub written : text ≡ uncovered_line variable
 
 -- one of the two
-abbrev pub IsOutputText : Option (List ℕ → Option (List ℕ)) → List Word → List ℕ → Type 0
+abbrev pub IsOutputText : Files → List Word → List ℕ → Type 0
 IsOutputText files words text = IsLearnedText files words text ⊎ IsRefusalText files words text
 
 -- what is to be written of a graph and a table
@@ -72,6 +61,6 @@ pub record IsRead (graph : List Statement) (wanted : TableValue) : Type 0 where
   pub within : AllByRecursion (IsWithin wanted.header) wanted.rows
 
 -- what is to be written
-abbrev pub IsAnswer : Option (List ℕ → Option (List ℕ)) → List Word → Answer → Type 0
+abbrev pub IsAnswer : Files → List Word → Answer → Type 0
 IsAnswer files words (answers.Query text) = IsLearnedText files words text
 IsAnswer files words (answers.Refusal text) = IsRefusalText files words text

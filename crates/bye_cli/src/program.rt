@@ -1,8 +1,12 @@
 //! The top call.
 
-ghost use Rattle.std.specs.Prelude.{◌≡◌, ◌<◌, length, IfOk, IfErr};
-ghost use Rattle.bye_cli.specs.Problem.{HoldsGraph, HoldsTable, IsLearnedText, IsRefusalText, IsOutputText, IsAnswer, IsRead, IsWritten, uncovered_line};
-ghost use Rattle.bye_cli.specs.Statuses.{IsSilent, Sends, SendsPart};
+ghost use Rattle.std.specs.Prelude.{◌≡◌, ◌<◌, ◌≤◌, ◌⊎◌, ◌↔◌, length, IfOk, IfErr};
+ghost use Rattle.bye_io.specs.Counts.{Rose};
+ghost use Rattle.bye_cli.specs.Words.{IsNoCommand};
+ghost use Rattle.bye_cli.specs.Documents.{HasVerdict, Graph, Wanted, Triples, Rows, Good, Faulty, TooLong};
+ghost use Rattle.bye_cli.specs.Problem.{IsLearnedText, IsRefusalText, IsOutputText, IsAnswer, IsRead, IsWritten, uncovered_line};
+ghost use Rattle.bye_cli.specs.Causes.{IsUnread, IsCause, IsStopped, IsMissing, IsWithoutRow, IsQuiet, IsAskedCase, IsCoveredCase, IsUncoveredCase};
+ghost use Rattle.bye_cli.specs.Statuses.{IsSilent, IsAnswered, Sends, SendsPart, status_of};
 
 use crate::answer::Answer;
 use crate::document::document;
@@ -22,7 +26,7 @@ const TABLE_LIMIT: u64 = 67_108_864;
 
 /// The status of a document that could not be read.
 fn unread(err: ReadErr) -> Status
-    ensures { IsSilent result }
+    ensures { result ≡ status_of err }
 {
     match err {
         ReadErr::TooLong => Status::Limit,
@@ -32,11 +36,15 @@ fn unread(err: ReadErr) -> Status
 }
 
 fn read_graph<F: Folder>(alloc: Global, folder: &mut F, name: &Text) -> Result<Vec<Triple>, Status>
-    ensures read { IfOk result (λ triples. HoldsGraph (F.files folder.old) name.now triples.items) }
-    ensures silent { IfErr result IsSilent }
+    ensures read { IfOk result (λ triples. HasVerdict (F.files folder.old) (Graph, name.now) (Good (Triples triples.items))) }
+    ensures unread { IfErr result (IsUnread (F.files folder.old) (Graph, name.now) (F.faults folder.old) (F.faults folder.new)) }
     ensures files { F.files folder.new ≡ F.files folder.old }
+    ensures later { F.faults folder.old ≤ F.faults folder.new }
 {
-    let bytes = document(alloc, folder, name, GRAPH_LIMIT).map_err(unread)?;
+    let bytes = match document(alloc, folder, name, GRAPH_LIMIT) {
+        Ok(bytes) => bytes,
+        Err(err) => return Err(unread(err)),
+    };
     match read_triples(alloc, bytes.as_slice()) {
         Ok(triples) => Ok(triples),
         Err(NtErr::NotFirstForm) => Err(Status::Document),
@@ -45,11 +53,15 @@ fn read_graph<F: Folder>(alloc: Global, folder: &mut F, name: &Text) -> Result<V
 }
 
 fn read_wanted<F: Folder>(alloc: Global, folder: &mut F, name: &Text) -> Result<Table, Status>
-    ensures read { IfOk result (λ table. HoldsTable (F.files folder.old) name.now table) }
-    ensures silent { IfErr result IsSilent }
+    ensures read { IfOk result (λ table. HasVerdict (F.files folder.old) (Wanted, name.now) (Good (Rows table))) }
+    ensures unread { IfErr result (IsUnread (F.files folder.old) (Wanted, name.now) (F.faults folder.old) (F.faults folder.new)) }
     ensures files { F.files folder.new ≡ F.files folder.old }
+    ensures later { F.faults folder.old ≤ F.faults folder.new }
 {
-    let bytes = document(alloc, folder, name, TABLE_LIMIT).map_err(unread)?;
+    let bytes = match document(alloc, folder, name, TABLE_LIMIT) {
+        Ok(bytes) => bytes,
+        Err(err) => return Err(unread(err)),
+    };
     match read_table(alloc, bytes.as_slice()) {
         Ok(table) => Ok(table),
         Err(TableErr::NotFirstTable) => Err(Status::Document),
@@ -83,7 +95,7 @@ fn written(alloc: Global, graph: &[Triple], wanted: &Table) -> Result<Answer, Me
 
 fn answer<F: Folder>(alloc: Global, words: &[Text], folder: &mut F) -> Result<Answer, Status>
     ensures answer { IfOk result (IsAnswer (F.files folder.old) words.now) }
-    ensures silent { IfErr result IsSilent }
+    ensures cause { IfErr result (IsCause (F.files folder.old) words.now (F.faults folder.old) (F.faults folder.new)) }
 {
     let Some(command) = read_words(words) else {
         return Err(Status::Words);
@@ -97,22 +109,15 @@ fn answer<F: Folder>(alloc: Global, words: &[Text], folder: &mut F) -> Result<An
     Ok(answer)
 }
 
-/// Runs the command that the words give: its documents are read from the folder, and its output goes to `out`.
-/// Nothing goes to `err` yet.
-pub fn run_program<F: Folder, S: Sink, E: Sink>(
-    alloc: Global,
-    words: &[Text],
-    folder: &mut F,
-    out: &mut S,
-    err: &mut E,
-) -> Status
+/// Runs the command that the words give, as `run_program` does.
+fn perform<F: Folder, S: Sink>(alloc: Global, words: &[Text], folder: &mut F, out: &mut S) -> Status
     ensures done { result ≡ Status.Done → Sends (IsLearnedText (F.files folder.old) words.now) (S.sent out.old) (S.sent out.new) }
     ensures refused { result ≡ Status.Refused → Sends (IsRefusalText (F.files folder.old) words.now) (S.sent out.old) (S.sent out.new) }
     ensures write_fault { result ≡ Status.WriteFault → SendsPart (IsOutputText (F.files folder.old) words.now) (S.sent out.old) (S.sent out.new) }
+    ensures write_rose { result ≡ Status.WriteFault → Rose (S.faults out.old) (S.faults out.new) }
     ensures silent { IsSilent result → S.sent out.new ≡ S.sent out.old }
-    ensures err { E.sent err.new ≡ E.sent err.old }
+    ensures cause { IsSilent result → IsCause (F.files folder.old) words.now (F.faults folder.old) (F.faults folder.new) result }
 {
-    let _unused = err;
     let answer = match answer(alloc, words, folder) {
         Ok(answer) => answer,
         Err(status) => return status,
@@ -125,4 +130,48 @@ pub fn run_program<F: Folder, S: Sink, E: Sink>(
         Ok(()) => status,
         Err(_) => Status::WriteFault,
     }
+}
+
+/// Runs the command that the words give: its documents are read from the folder, and its output goes to `out`.
+/// Nothing goes to `err` yet.
+pub fn run_program<F: Folder, S: Sink, E: Sink>(
+    alloc: Global,
+    words: &[Text],
+    folder: &mut F,
+    out: &mut S,
+    err: &mut E,
+) -> Status
+    // What is written.
+    ensures done { result ≡ Status.Done → Sends (IsLearnedText (F.files folder.old) words.now) (S.sent out.old) (S.sent out.new) }
+    ensures refused { result ≡ Status.Refused → Sends (IsRefusalText (F.files folder.old) words.now) (S.sent out.old) (S.sent out.new) }
+    ensures write_fault { result ≡ Status.WriteFault → SendsPart (IsOutputText (F.files folder.old) words.now) (S.sent out.old) (S.sent out.new) }
+    ensures silent { IsSilent result → S.sent out.new ≡ S.sent out.old }
+    ensures err { E.sent err.new ≡ E.sent err.old }
+
+    // What each other status says.
+    ensures words { result ≡ Status.Words ↔ IsNoCommand words.now }
+    ensures document { result ≡ Status.Document → IsStopped (F.files folder.old) words.now Faulty }
+    ensures limit { result ≡ Status.Limit → IsStopped (F.files folder.old) words.now TooLong }
+    ensures example { result ≡ Status.Example → IsWithoutRow (F.files folder.old) words.now }
+    ensures read_fault { result ≡ Status.ReadFault → Rose (F.faults folder.old) (F.faults folder.new) ⊎ IsMissing (F.files folder.old) words.now }
+    ensures write_rose { result ≡ Status.WriteFault → Rose (S.faults out.old) (S.faults out.new) }
+
+    // Where the folder tells its files and its count did not rise, each comes exactly there, but for want of memory.
+    ensures faulty { IsQuiet (F.files folder.old) (F.faults folder.old) (F.faults folder.new) → IsStopped (F.files folder.old) words.now Faulty
+        → result ≡ Status.Document ⊎ result ≡ Status.Memory }
+    ensures too_long { IsQuiet (F.files folder.old) (F.faults folder.old) (F.faults folder.new) → IsStopped (F.files folder.old) words.now TooLong
+        → result ≡ Status.Limit ⊎ result ≡ Status.Memory }
+    ensures without_row { IsQuiet (F.files folder.old) (F.faults folder.old) (F.faults folder.new) → IsWithoutRow (F.files folder.old) words.now
+        → result ≡ Status.Example ⊎ result ≡ Status.Memory }
+
+    // Where moreover the output's count did not rise, a question with a row is answered.
+    ensures covered { IsQuiet (F.files folder.old) (F.faults folder.old) (F.faults folder.new) → ¬ (Rose (S.faults out.old) (S.faults out.new))
+        → IsCoveredCase (F.files folder.old) words.now → result ≡ Status.Done ⊎ result ≡ Status.Memory }
+    ensures uncovered { IsQuiet (F.files folder.old) (F.faults folder.old) (F.faults folder.new) → ¬ (Rose (S.faults out.old) (S.faults out.new))
+        → IsUncoveredCase (F.files folder.old) words.now → result ≡ Status.Refused ⊎ result ≡ Status.Memory }
+    ensures complete { IsQuiet (F.files folder.old) (F.faults folder.old) (F.faults folder.new) → ¬ (Rose (S.faults out.old) (S.faults out.new))
+        → IsAskedCase (F.files folder.old) words.now → IsAnswered result }
+{
+    let _unused = err;
+    perform(alloc, words, folder, out)
 }

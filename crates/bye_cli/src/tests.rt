@@ -24,10 +24,12 @@ fn words(alloc: Global, line: &str) -> Result<Vec<Text>, Fail> {
     Ok(words)
 }
 
+// A folder with the graph `g`, this table `w` and a file `long` of so many line feeds.
 fn folder(
     rt: &impl Abort,
     alloc: Global,
     wanted: &str,
+    long: usize,
     fails: &[u64],
     most: u64,
 ) -> Result<MemFolder, Fail>
@@ -41,6 +43,10 @@ fn folder(
     files.push((
         Text::copy_of(alloc, "w")?,
         Vec::from_slice(alloc, wanted.as_bytes())?,
+    ))?;
+    files.push((
+        Text::copy_of(alloc, "long")?,
+        Vec::from_elem(alloc, b'\n', long)?,
     ))?;
     assert!(rt; MemFolder::are_distinct(&files));
     Ok(MemFolder::new(files, Vec::from_slice(alloc, fails)?, most))
@@ -85,10 +91,31 @@ fn documents_and_words_decide(rt: HostRuntime) -> Result<(), Fail> {
         ("no row", LEARN, "?x\n", Status::Example, ""),
         ("no table", LEARN, "x\n", Status::Document, ""),
         (
+            "the table first",
+            "learn --wanted w --graph g",
+            WANTED,
+            Status::Done,
+            QUERY,
+        ),
+        (
             "no such table",
             "learn --graph g --wanted u",
             WANTED,
             Status::ReadFault,
+            "",
+        ),
+        (
+            "no graph, and no such table",
+            "learn --graph w --wanted u",
+            WANTED,
+            Status::Document,
+            "",
+        ),
+        (
+            "no graph, and no row",
+            "learn --graph w --wanted w",
+            "?x\n",
+            Status::Document,
             "",
         ),
         (
@@ -100,7 +127,7 @@ fn documents_and_words_decide(rt: HostRuntime) -> Result<(), Fail> {
         ),
         ("no option", "learn", WANTED, Status::Words, ""),
     ] {
-        let mut folder = folder(&rt, rt.alloc(), wanted, &[], 100)?;
+        let mut folder = folder(&rt, rt.alloc(), wanted, 0, &[], 100)?;
         let mut out = sink(rt.alloc(), &[], 100)?;
         assert_eq!(rt;
             ends(rt.alloc(), line, &mut folder, &mut out, sent)?,
@@ -143,12 +170,49 @@ fn faults_decide(rt: HostRuntime) -> Result<(), Fail> {
             "SELECT DIS",
         ),
     ] {
-        let mut folder = folder(&rt, rt.alloc(), WANTED, reads, most)?;
+        let mut folder = folder(&rt, rt.alloc(), WANTED, 0, reads, most)?;
         let mut out = sink(rt.alloc(), writes, most)?;
         assert_eq!(rt;
             ends(rt.alloc(), LEARN, &mut folder, &mut out, sent)?,
             (status, true),
             "{name}"
+        );
+    }
+    Ok(())
+}
+
+#[test]
+fn each_failed_call_is_a_read_fault(rt: HostRuntime) -> Result<(), Fail> {
+    // Each of two documents is opened, read and read at its end.
+    for call in 1..8 {
+        let mut folder = folder(&rt, rt.alloc(), WANTED, 0, &[call], 1000)?;
+        let mut out = sink(rt.alloc(), &[], 1000)?;
+        let (status, sent) = if call < 7 {
+            (Status::ReadFault, "")
+        } else {
+            (Status::Done, QUERY)
+        };
+        assert_eq!(rt;
+            ends(rt.alloc(), LEARN, &mut folder, &mut out, sent)?,
+            (status, true),
+            "call {call}"
+        );
+    }
+    Ok(())
+}
+
+#[test]
+fn one_byte_past_a_limit_is_too_long(rt: HostRuntime) -> Result<(), Fail> {
+    for (line, long) in [
+        ("learn --graph long --wanted w", 268_435_457),
+        ("learn --graph g --wanted long", 67_108_865),
+    ] {
+        let mut folder = folder(&rt, rt.alloc(), WANTED, long, &[], 1_000_000)?;
+        let mut out = sink(rt.alloc(), &[], 1000)?;
+        assert_eq!(rt;
+            ends(rt.alloc(), line, &mut folder, &mut out, "")?,
+            (Status::Limit, true),
+            "{line}"
         );
     }
     Ok(())

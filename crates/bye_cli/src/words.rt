@@ -1,8 +1,8 @@
 //! The words of the command line.
 
-ghost use Rattle.std.specs.Prelude.{◌≡◌, ◌↔◌, IfSome, IsTrue};
+ghost use Rattle.std.specs.Prelude.{◌≡◌, ◌↔◌, IfSome, IfNone, IsTrue};
 ghost use Rattle.bye_terms.specs.Ascii.{is_ascii};
-ghost use Rattle.bye_cli.specs.Words.{IsLearn};
+ghost use Rattle.bye_cli.specs.Words.{IsLearn, IsNoCommand};
 
 use bye_terms::Text;
 
@@ -24,11 +24,13 @@ fn is_word(word: &Text, name: &str) -> bool
 /// The names that the words give, where they are those of a `learn` command.
 pub fn read_words(words: &[Text]) -> Option<Learn<'_>>
     ensures learn { IfSome result (λ c. IsLearn words.now c.graph.now c.wanted.now) }
+    ensures none { IfNone result (IsNoCommand words.now) }
 {
-    let [command, first, one, second, other] = words else {
+    if words.len() != 5 {
         return None;
-    };
-    if !is_word(command, "learn") {
+    }
+    let (first, one, second, other) = (&words[1], &words[2], &words[3], &words[4]);
+    if !is_word(&words[0], "learn") {
         return None;
     }
     if is_word(first, "--graph") && is_word(second, "--wanted") {

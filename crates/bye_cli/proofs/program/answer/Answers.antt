@@ -1,26 +1,42 @@
-use Rattle.std.proofs.Common.{◌≡◌, ◌<◌, length, Bool, false, ◌==◌, List, subst, arith}
-use Rattle.bye_pattern.specs.Mappings.{Pairs}
+use Rattle.std.proofs.Common.{◌≡◌, ◌<◌, length, Bool, false, ◌==◌, List, ℕ, subst, sym, arith}
+use Rattle.std.proofs.lemmas.Result.{err_from_is_err_and}
 use Rattle.bye_terms.specs.Terms.{Statement}
-use Rattle.bye_cli.specs.Problem.{HoldsTable, IsRead, IsWritten}
+use Rattle.bye_pattern.specs.Mappings.{Pairs}
+use Rattle.bye_cli.specs.Documents.{Files, HasVerdict, Wanted, Rows, Good}
+use Rattle.bye_cli.specs.Words.{Learn}
+use Rattle.bye_cli.specs.Problem.{IsGiven, IsRead, IsWritten}
+use Rattle.bye_cli.specs.Causes.{IsUnread, IsCause}
+use Rattle.bye_cli.specs.declared.status.Status.{Status}
 use Rattle.bye_cli.proofs.Asked.{is_read, is_answer}
+use Rattle.bye_cli.proofs.Settled.{graph_unread, wanted_unread}
 use Rattle.bye_cli.proofs.program.answer.Goals as goal
 
 not_empty : (rows : List Pairs) (b : Bool) → b ≡ (length rows == 0) → b ≡ false → 0 < length rows
 not_empty rows b e f = grind arith
 
+pub returns-in_err-graph-clause-cause : goal.returns-in_err-graph-clause-cause
+returns-in_err-graph-clause-cause g c = let p = err_from_is_err_and c.from_residual.result c.from_residual.ensures.1 in
+    rw (p.1, p.2) (graph_unread _ c.args.words.now c.in-Some.command.graph.now c.in-Some.command.wanted.now _ _ c.in_err-graph.field-0.0 c.in-Some.ensures.learn c.in_err-graph.ensures.unread)
+
+pub returns-in_err-wanted-clause-cause : goal.returns-in_err-wanted-clause-cause
+returns-in_err-wanted-clause-cause g c = let p = err_from_is_err_and c.from_residual-in_err-wanted.result c.from_residual-in_err-wanted.ensures.1 in
+    let unread = subst (λ (files : Files). IsUnread files (Wanted, c.in-Some.command.wanted.now) (g.F.Source.faults c.read_graph.new.folder) (g.F.Source.faults c.read_wanted.new.folder) c.in_err-wanted.field-0.0) c.in_ok-graph.ensures.files c.in_err-wanted.ensures.unread in
+    rw (p.1, p.2) (wanted_unread _ c.args.words.now c.in-Some.command.graph.now c.in-Some.command.wanted.now c.in_ok-graph.graph.items _ (g.F.Source.faults c.read_graph.new.folder) _ c.in_err-wanted.field-0.0 c.in-Some.ensures.learn c.in_ok-graph.ensures.read c.in_ok-graph.ensures.later unread)
+
+pub returns-in_err-answer-clause-cause : goal.returns-in_err-answer-clause-cause
+returns-in_err-answer-clause-cause g c = let p = err_from_is_err_and c.from_residual-in_err-answer.result c.from_residual-in_err-answer.ensures.1 in
+    rw (p.1, p.2) (Learn c.in-Some.command.graph.now c.in-Some.command.wanted.now, c.in-Some.ensures.learn)
+
 pub returns-clause-answer : goal.returns-clause-answer
 returns-clause-answer g c =
-    let graph_held = c.in_ok-graph.ensures.read in
-    let wanted_held = subst (λ files. HoldsTable files c.in-Some.command.wanted.now c.in_ok-wanted.wanted) c.in_ok-graph.ensures.files c.in_ok-wanted.ensures.read in
+    let wanted_held = subst (λ (files : Files). HasVerdict files (Wanted, c.in-Some.command.wanted.now) (Good (Rows c.in_ok-wanted.wanted))) c.in_ok-graph.ensures.files c.in_ok-wanted.ensures.read in
     let written = subst (λ (graph : List Statement). IsRead graph c.in_ok-wanted.wanted → IsWritten graph c.in_ok-wanted.wanted c.in_ok-answer.answer) c.as_slice.ensures.value c.in_ok-answer.ensures in
     let row : 0 < length c.in_ok-wanted.wanted.rows = subst (λ (rows : List Pairs). 0 < length rows) c.rows.ensures (not_empty c.rows.result.now c.is_empty.result c.is_empty.ensures c.if-is_empty.false) in
-    is_answer _ _ _ _ c.in_ok-answer.answer
-    (record {
+    let given : IsGiven (g.F.Folder.files c.args.folder.now) c.args.words.now c.in_ok-graph.graph.items c.in_ok-wanted.wanted = record {
       graph_name = c.in-Some.command.graph.now;
       wanted_name = c.in-Some.command.wanted.now;
       learn = c.in-Some.ensures.learn;
-      graph_held = graph_held;
+      graph_held = c.in_ok-graph.ensures.read;
       wanted_held = wanted_held;
-      some_row = row;
-    })
-    (written (is_read _ _ _ _ _ graph_held wanted_held))
+    } in
+    is_answer _ _ _ _ c.in_ok-answer.answer (record { given = given; some_row = row }) (written (is_read _ _ _ _ given))
