@@ -1,5 +1,5 @@
 -- The words of `learn` stand in one of two orders, and say one command.
-use Rattle.std.proofs.Common.{◌≡◌, refl, ℕ, List, [], ◌∷◌, length, get_or, codes, inl, inr, ◌⊎◌, ⊎_elim, sym, ◌∙◌, ap, subst, arith, map}
+use Rattle.std.proofs.Common.{◌≡◌, ℕ, List, [], ◌∷◌, length, get_or, codes, inl, inr, ◌⊎◌, ⊎_elim, sym, ◌∙◌, ap, arith, map}
 use Rattle.std.specs.List.{AllByRecursion, flat_map}
 use Rattle.bye_terms.specs.Members.{In, EachOnce}
 use Rattle.bye_cli.specs.Words.{Word, Setting, setting_words, IsLearn, Command, Learn, IsCommand}

@@ -1,19 +1,14 @@
 -- Where a folder tells its files, the words and the files leave one way to end.
-use Rattle.std.proofs.Common.{◌≡◌, refl, ℕ, ◌<◌, ◌≤◌, List, [], ◌∷◌, ◌++◌, length, Option, Some, None, inl, inr, ◌⊎◌, ⊎_elim, sym, ◌∙◌, ap, subst, arith}
-use Rattle.bye_io.specs.Counts.{Rose}
+use Rattle.std.proofs.Common.{◌≡◌, refl, ℕ, ◌<◌, ◌≤◌, List, [], ◌∷◌, length, Option, Some, None, ⊎_elim, sym, ◌∙◌, ap, subst, arith}
 use Rattle.bye_io.specs.Files.{Lacks}
-use Rattle.bye_terms.specs.Members.{In}
 use Rattle.bye_terms.specs.Terms.{Statement}
-use Rattle.bye_terms.proofs.Members.{in_right}
 use Rattle.bye_ntriples.proofs.Lines.{same_triples}
 use Rattle.bye_pattern.proofs.TableTexts.{same_tables}
-use Rattle.bye_pattern.specs.Mappings.{Name, Pairs}
-use Rattle.bye_pattern.specs.Common.{IsCovered, IsUncovered}
-use Rattle.bye_pattern.specs.Learning.{wanted_of, IsFirstUncovered}
+use Rattle.bye_pattern.specs.Mappings.{Pairs}
 use Rattle.bye_pattern.specs.Tables.{TableValue}
-use Rattle.bye_cli.specs.Words.{Word, IsLearn, Command, Learn, IsCommand, IsNoCommand, IsSomeCommand}
+use Rattle.bye_cli.specs.Words.{Word, IsLearn, Command, Learn, IsCommand, IsSomeCommand}
 use Rattle.bye_cli.specs.Documents.{Files, IsTold, Role, Graph, Wanted, Document, due, limit_of, Value, Triples, Rows, Says, Verdict, TooLong, Faulty, Good, IsVerdict, HasVerdict, Reaches, Stops}
-use Rattle.bye_cli.specs.Problem.{IsGiven, IsAsked, IsLearnedText, IsRefusalText}
+use Rattle.bye_cli.specs.Problem.{IsGiven, IsAsked}
 use Rattle.bye_cli.specs.Causes.{IsStopped, IsMissing, IsWithoutRow}
 use Rattle.bye_cli.proofs.Commands.{one_command}
 
@@ -196,7 +191,3 @@ same_given (Some files) words graph other wanted table told h k =
     let a : graph ≡ other = cc in
     let b : wanted ≡ table = cc in
     (a, b)
-
--- the first uncovered variable is one of the header's
-pub in_header : (graph : List Statement) (wanted : TableValue) (x : Name) → IsFirstUncovered graph wanted x → In wanted.header x
-in_header graph wanted x h = subst (λ (vs : List Name). In vs x) (sym h.parts) (in_right h.before (x ∷ h.after) x (inl refl))

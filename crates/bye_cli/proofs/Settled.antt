@@ -1,24 +1,20 @@
 -- Each status from its cause, and its cause from each status.
-use Rattle.std.proofs.Common.{◌≡◌, refl, ℕ, zero, suc, ◌+◌, ◌-◌, ◌^◌, ◌<◌, ◌≤◌, min, List, [], ◌∷◌, length, Option, Some, None, inl, inr, ◌⊎◌, ⊎_elim, sym, ◌∙◌, ap, subst, arith, IsSomeAnd, ◌↔◌}
-use Rattle.std.specs.Str.{encode_utf8_all}
+use Rattle.std.proofs.Common.{◌≡◌, refl, ℕ, zero, suc, ◌<◌, ◌≤◌, List, [], ◌∷◌, length, Option, Some, None, inl, inr, ◌⊎◌, ⊎_elim, sym, subst, arith, IsSomeAnd, ◌↔◌}
 use Rattle.bye_io.specs.Counts.{Rose}
 use Rattle.bye_io.specs.Files.{Lacks}
 use Rattle.bye_io.specs.declared.fault.ReadErr.{ReadErr}
 use Rattle.bye_io.specs.declared.fault.ReadErr.TheVariants as errors
-use Rattle.bye_terms.specs.Members.{In}
 use Rattle.bye_terms.specs.Terms.{Statement}
-use Rattle.bye_pattern.specs.Mappings.{Name}
-use Rattle.bye_pattern.specs.Common.{IsCovered}
-use Rattle.bye_pattern.specs.Learning.{wanted_of, IsStrongestQuery, IsFirstUncovered}
 use Rattle.bye_pattern.specs.Tables.{TableValue}
-use Rattle.bye_cli.specs.Words.{Word, IsLearn, Command, Learn, IsCommand, IsNoCommand, IsSomeCommand}
-use Rattle.bye_cli.specs.Documents.{Files, IsTold, HoldsLonger, Role, Graph, Wanted, Document, limit_of, Value, Triples, Rows, TooLong, Faulty, Good, HasVerdict}
-use Rattle.bye_cli.specs.Problem.{IsAsked, IsLearnedText, IsRefusalText, IsOutputText}
-use Rattle.bye_cli.specs.Causes.{IsUnread, IsCause, IsStopped, IsMissing, IsWithoutRow, IsQuiet, IsAskedCase, IsCoveredCase, IsUncoveredCase}
+use Rattle.bye_cli.specs.Words.{Word, IsLearn, Learn, IsNoCommand, IsSomeCommand}
+use Rattle.bye_cli.specs.Documents.{Files, IsTold, HoldsLonger, Role, Graph, Wanted, limit_of, Triples, TooLong, Good, HasVerdict}
+use Rattle.bye_cli.specs.Problem.{IsAsked, IsQueryText, IsRefusalLine, IsLearnedText, IsRefusalText, IsOutputText}
+use Rattle.bye_cli.specs.Headline.{NoneFits, Headline}
+use Rattle.bye_cli.specs.Causes.{IsUnread, IsCause, IsQuiet, IsAskedCase}
 use Rattle.bye_cli.specs.Statuses.{status_of, IsSilent, IsAnswered, Sends, SendsPart}
 use Rattle.bye_cli.specs.declared.status.Status.{Status}
 use Rattle.bye_cli.specs.declared.status.Status.TheVariants.{Done, Refused, Words, Document as DocumentStatus, Limit, ReadFault, WriteFault, Memory, Example}
-use Rattle.bye_cli.proofs.Exclusive.{Ending, Faults, Long, Missing, Bare, Asked, Ends, one_ending, some_command, same_given, in_header}
+use Rattle.bye_cli.proofs.Exclusive.{Ending, Faults, Long, Missing, Bare, Asked, Ends, one_ending, some_command, same_given}
 
 -- bytes that are more than so many
 longer : (n : ℕ) → (bytes : List ℕ) × (n < length bytes)
@@ -138,47 +134,54 @@ words_alone files words before now ob on s t status run = (
   (λ none. ⊎_elim (λ e. e) (λ c. absurd (none c.0 c.1)) (has_command files words before now ob on s t status run)),
 )
 
--- a covered header is not refused, and an uncovered one is
-not_refused : (files : Files) (words : List Word) (text : List ℕ) → IsTold files → IsCoveredCase files words → IsRefusalText files words text → ⊥
-not_refused files words text told (graph, wanted, asked, covered) h =
+-- what was written is of the graph and the table that are given
+query_of : (files : Files) (words : List Word) (graph : List Statement) (wanted : TableValue) (text : List ℕ) → IsTold files → IsAsked files words graph wanted
+    → IsLearnedText files words text → IsQueryText graph wanted text
+query_of files words graph wanted text told asked h =
     let same = same_given files words h.graph graph h.wanted wanted told h.asked.given asked.given in
-    let uncovered : IsFirstUncovered graph wanted h.variable = subst (λ (t : TableValue). IsFirstUncovered graph t h.variable) same.1 (subst (λ (g : List Statement). IsFirstUncovered g h.wanted h.variable) same.0 h.uncovered) in
-    let c = covered h.variable (in_header graph wanted h.variable uncovered) in
-    uncovered.uncovered c.0 c.1 c.2
+    subst (λ (t : TableValue). IsQueryText graph t text) same.1 (subst (λ (g : List Statement). IsQueryText g h.wanted text) same.0 h.query)
 
-not_learned : (files : Files) (words : List Word) (text : List ℕ) → IsTold files → IsUncoveredCase files words → IsLearnedText files words text → ⊥
-not_learned files words text told (graph, wanted, asked, (x, inside, uncovered)) h =
+refusal_of : (files : Files) (words : List Word) (graph : List Statement) (wanted : TableValue) (text : List ℕ) → IsTold files → IsAsked files words graph wanted
+    → IsRefusalText files words text → IsRefusalLine graph wanted text
+refusal_of files words graph wanted text told asked h =
     let same = same_given files words h.graph graph h.wanted wanted told h.asked.given asked.given in
-    let strongest : IsStrongestQuery graph wanted h.query = subst (λ (t : TableValue). IsStrongestQuery graph t h.query) same.1 (subst (λ (g : List Statement). IsStrongestQuery g h.wanted h.query) same.0 h.strongest) in
-    let c = strongest.covered x inside in
-    uncovered c.0 c.1 c.2
+    subst (λ (t : TableValue). IsRefusalLine graph t text) same.1 (subst (λ (g : List Statement). IsRefusalLine g h.wanted text) same.0 h.refusal)
 
-pub exactly_done : (files : Files) (words : List Word) (before now out_before out_now : ℕ) (sent sent_now : Option (List ℕ)) (status : Status)
-    → Run files words before now out_before out_now sent sent_now status → IsQuiet files before now → (Rose out_before out_now → ⊥) → IsCoveredCase files words → (status ≡ Done) ⊎ (status ≡ Memory)
-exactly_done files words before now ob on s t status run quiet still case =
-    ⊎_elim (λ e. inr e)
-    (λ h. ⊎_elim (λ e. inl e) (λ h. ⊎_elim
-    (λ e. let w = run.refused e in absurd (not_refused files words w.0 quiet.told case w.1))
-    (λ e. absurd (still (run.write_rose e))) h) h)
-    (settled files words before now ob on s t status run quiet Asked (case.0, case.1, case.2))
-
-pub exactly_refused : (files : Files) (words : List Word) (before now out_before out_now : ℕ) (sent sent_now : Option (List ℕ)) (status : Status)
-    → Run files words before now out_before out_now sent sent_now status → IsQuiet files before now → (Rose out_before out_now → ⊥) → IsUncoveredCase files words → (status ≡ Refused) ⊎ (status ≡ Memory)
-exactly_refused files words before now ob on s t status run quiet still case =
-    ⊎_elim (λ e. inr e)
-    (λ h. ⊎_elim (λ e. let w = run.done e in absurd (not_learned files words w.0 quiet.told case w.1)) (λ h. ⊎_elim
-    (λ e. inl e)
-    (λ e. absurd (still (run.write_rose e))) h) h)
-    (settled files words before now ob on s t status run quiet Asked (case.0, case.1, case.2))
-
-pub exactly_answered : (files : Files) (words : List Word) (before now out_before out_now : ℕ) (sent sent_now : Option (List ℕ)) (status : Status)
-    → Run files words before now out_before out_now sent sent_now status → IsQuiet files before now → (Rose out_before out_now → ⊥) → IsAskedCase files words → IsAnswered status
-exactly_answered files words before now ob on s t status run quiet still case =
-    ⊎_elim (λ e. subst IsAnswered (sym e) tt)
-    (λ h. ⊎_elim (λ e. subst IsAnswered (sym e) tt) (λ h. ⊎_elim
-    (λ e. subst IsAnswered (sym e) tt)
-    (λ e. absurd (still (run.write_rose e))) h) h)
+-- where no count rose, a question has one of three ends
+asked_ends : (files : Files) (words : List Word) (before now out_before out_now : ℕ) (sent sent_now : Option (List ℕ)) (status : Status)
+    → Run files words before now out_before out_now sent sent_now status → IsQuiet files before now → (Rose out_before out_now → ⊥) → IsAskedCase files words
+    → (status ≡ Memory) ⊎ ((status ≡ Done) ⊎ (status ≡ Refused))
+asked_ends files words before now ob on s t status run quiet still case =
+    ⊎_elim (λ e. inl e)
+    (λ h. ⊎_elim (λ e. inr (inl e)) (λ h. ⊎_elim (λ e. inr (inr e)) (λ e. absurd (still (run.write_rose e))) h) h)
     (settled files words before now ob on s t status run quiet Asked case)
+
+is_answered : (status : Status) → (status ≡ Memory) ⊎ ((status ≡ Done) ⊎ (status ≡ Refused)) → IsAnswered status
+is_answered status h =
+    ⊎_elim (λ e. subst IsAnswered (sym e) tt) (λ h. ⊎_elim (λ e. subst IsAnswered (sym e) tt) (λ e. subst IsAnswered (sym e) tt) h) h
+
+pub answered : (files : Files) (words : List Word) (before now out_before out_now : ℕ) (sent sent_now : Option (List ℕ)) (status : Status)
+    → Run files words before now out_before out_now sent sent_now status → IsQuiet files before now → (Rose out_before out_now → ⊥) → IsAskedCase files words → IsAnswered status
+answered files words before now ob on s t status run quiet still case =
+    is_answered status (asked_ends files words before now ob on s t status run quiet still case)
+
+pub headline : (files : Files) (words : List Word) (before now out_before out_now : ℕ) (sent sent_now : Option (List ℕ)) (status : Status)
+    → Run files words before now out_before out_now sent sent_now status → Headline files words (Rose before now ⊎ Rose out_before out_now) sent sent_now status
+headline files words before now ob on s t status run told graph wanted asked =
+    let ends : ((Rose before now ⊎ Rose ob on) → ⊥) → (status ≡ Memory) ⊎ ((status ≡ Done) ⊎ (status ≡ Refused)) =
+    λ still. asked_ends files words before now ob on s t status run (record { told = told; rose = λ r. still (inl r) }) (λ r. still (inr r)) (graph, wanted, asked) in
+    let query : status ≡ Done → Sends (IsQueryText graph wanted) s t = λ e. let w = run.done e in (w.0, query_of files words graph wanted w.0 told asked w.1, w.2) in
+    let line : status ≡ Refused → Sends (IsRefusalLine graph wanted) s t = λ e. let w = run.refused e in (w.0, refusal_of files words graph wanted w.0 told asked w.1, w.2) in
+    let right : status ≡ Done → NoneFits graph wanted → ⊥ = λ e none. let w = query e in none w.1.query w.1.learned.in_class w.1.learned.fits in
+    let justified : status ≡ Refused → NoneFits graph wanted = λ e. (line e).1.refused.none in
+    record {
+      answered = λ still. is_answered status (ends still);
+      done = query;
+      refused = λ e. (line e, justified e);
+      right = right;
+      none = λ still none. ⊎_elim (λ e. inr e) (λ h. ⊎_elim (λ e. absurd (right e none)) (λ e. inl e) h) (ends still);
+      some = λ still some. ⊎_elim (λ e. inr e) (λ h. ⊎_elim (λ e. inl e) (λ e. absurd (some (justified e))) h) (ends still);
+    }
 
 pub exactly : (files : Files) (words : List Word) (before now out_before out_now : ℕ) (sent sent_now : Option (List ℕ)) (status : Status)
     → Run files words before now out_before out_now sent sent_now status → IsQuiet files before now → (e : Ending) → Ends files words e → Matches e status ⊎ (status ≡ Memory)

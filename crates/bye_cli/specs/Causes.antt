@@ -6,10 +6,6 @@ use Rattle.bye_terms.specs.Terms.{Statement}
 use Rattle.bye_pattern.specs.Tables.{TableValue}
 use Rattle.bye_cli.specs.Words.{Word, Command, IsCommand, IsNoCommand, IsSomeCommand}
 use Rattle.bye_cli.specs.Documents.{Files, IsTold, Document, due, Verdict, TooLong, Faulty, HasVerdict, Reaches, Stops}
-use Rattle.bye_pattern.specs.Mappings.{Name}
-use Rattle.bye_pattern.specs.Common.{IsCovered, IsUncovered}
-use Rattle.bye_pattern.specs.Learning.{wanted_of}
-use Rattle.bye_terms.specs.Members.{In}
 use Rattle.bye_cli.specs.Problem.{IsGiven, IsAsked}
 use Rattle.bye_cli.specs.declared.status.Status.{Status}
 use Rattle.bye_cli.specs.declared.status.Status.TheVariants as statuses
@@ -52,13 +48,3 @@ pub record IsQuiet (files : Files) (before now : ℕ) : Type 0 where
 -- the documents are given, and there is a wanted row
 abbrev pub IsAskedCase : Files → List Word → Type 0
 IsAskedCase files words = (graph : List Statement) × (wanted : TableValue) × IsAsked files words graph wanted
-
--- and each variable of the header is in a triple pattern that holds in every wanted row
-abbrev pub IsCoveredCase : Files → List Word → Type 0
-IsCoveredCase files words = (graph : List Statement) × (wanted : TableValue) × IsAsked files words graph wanted
-    × ((x : Name) → In wanted.header x → IsCovered graph wanted.header (wanted_of wanted) x)
-
--- or some variable of the header is in none
-abbrev pub IsUncoveredCase : Files → List Word → Type 0
-IsUncoveredCase files words = (graph : List Statement) × (wanted : TableValue) × IsAsked files words graph wanted
-    × ((x : Name) × In wanted.header x × IsUncovered graph wanted.header (wanted_of wanted) x)

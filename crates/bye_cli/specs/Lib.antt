@@ -3,3 +3,4 @@ pub mod Documents
 pub mod Problem
 pub mod Statuses
 pub mod Causes
+pub mod Headline

@@ -6,7 +6,7 @@ use Rattle.bye_pattern.specs.Mappings.{Name}
 use Rattle.bye_pattern.specs.Trees.{Select}
 use Rattle.bye_pattern.specs.Printed.{query_text}
 use Rattle.bye_pattern.specs.Tables.{TableValue}
-use Rattle.bye_pattern.specs.Learning.{IsWithin, IsStrongestQuery, IsFirstUncovered}
+use Rattle.bye_pattern.specs.Learning.{wanted_of, AreFull, IsLearnedQuery, IsJustRefused}
 use Rattle.bye_cli.specs.Words.{Word, IsLearn}
 use Rattle.bye_cli.specs.Documents.{Files, Graph, Wanted, Triples, Rows, Good, HasVerdict}
 use Rattle.bye_cli.specs.declared.answer.Answer.{Answer}
@@ -25,26 +25,33 @@ pub record IsAsked (files : Files) (words : List Word) (graph : List Statement) 
   pub given : IsGiven files words graph wanted
   pub some_row : 0 < length wanted.rows
 
--- the text of the query of all triple patterns that hold in every wanted row
+-- the written text of the query that is learned
+pub record IsQueryText (graph : List Statement) (wanted : TableValue) (text : List ℕ) : Type 0 where
+  pub query : Select
+  pub learned : IsLearnedQuery graph wanted query
+  pub written : text ≡ query_text query
+
+-- the line that names the variable of a refusal
+abbrev pub uncovered_line : Name → List ℕ
+uncovered_line x = codes "uncovered ?" ++ x ++ codes "\n"
+
+pub record IsRefusalLine (graph : List Statement) (wanted : TableValue) (text : List ℕ) : Type 0 where
+  pub variable : Name
+  pub refused : IsJustRefused graph wanted variable
+  pub written : text ≡ uncovered_line variable
+
+-- what is written where the words and the files ask for a query
 pub record IsLearnedText (files : Files) (words : List Word) (text : List ℕ) : Type 0 where
   pub graph : List Statement
   pub wanted : TableValue
   pub asked : IsAsked files words graph wanted
-  pub query : Select
-  pub strongest : IsStrongestQuery graph wanted query
-  pub written : text ≡ query_text query
-
--- the line that names the first variable that no such pattern contains
-abbrev pub uncovered_line : Name → List ℕ
-uncovered_line x = codes "uncovered ?" ++ x ++ codes "\n"
+  pub query : IsQueryText graph wanted text
 
 pub record IsRefusalText (files : Files) (words : List Word) (text : List ℕ) : Type 0 where
   pub graph : List Statement
   pub wanted : TableValue
   pub asked : IsAsked files words graph wanted
-  pub variable : Name
-  pub uncovered : IsFirstUncovered graph wanted variable
-  pub written : text ≡ uncovered_line variable
+  pub refusal : IsRefusalLine graph wanted text
 
 -- one of the two
 abbrev pub IsOutputText : Files → List Word → List ℕ → Type 0
@@ -52,13 +59,13 @@ IsOutputText files words text = IsLearnedText files words text ⊎ IsRefusalText
 
 -- what is to be written of a graph and a table
 abbrev pub IsWritten : List Statement → TableValue → Answer → Type 0
-IsWritten graph wanted (answers.Query text) = (q : Select) × IsStrongestQuery graph wanted q × (text ≡ query_text q)
-IsWritten graph wanted (answers.Refusal text) = (x : Name) × IsFirstUncovered graph wanted x × (text ≡ uncovered_line x)
+IsWritten graph wanted (answers.Query text) = IsQueryText graph wanted text
+IsWritten graph wanted (answers.Refusal text) = IsRefusalLine graph wanted text
 
--- its triples have subjects and predicates, and its rows bind variables of the header alone
+-- its triples have subjects and predicates, and its rows bind exactly the variables of the header
 pub record IsRead (graph : List Statement) (wanted : TableValue) : Type 0 where
   pub triples : AllByRecursion IsTriple graph
-  pub within : AllByRecursion (IsWithin wanted.header) wanted.rows
+  pub full : AreFull wanted.header (wanted_of wanted)
 
 -- what is to be written
 abbrev pub IsAnswer : Files → List Word → Answer → Type 0

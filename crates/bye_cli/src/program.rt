@@ -1,18 +1,22 @@
 //! The top call.
 
-ghost use Rattle.std.specs.Prelude.{◌≡◌, ◌<◌, ◌≤◌, ◌⊎◌, ◌↔◌, length, IfOk, IfErr};
+ghost use Rattle.std.specs.Prelude.{◌≡◌, ◌<◌, ◌≤◌, ◌⊎◌, ◌↔◌, length, IfOk, IfErr, OnOk, OnErr};
+ghost use Rattle.std.specs.Str.{encode_utf8_all};
+ghost use Rattle.std.specs.Io.KnownBytes.{Appends};
+ghost use Rattle.bye_io.specs.Bytes.{AppendsPart};
 ghost use Rattle.bye_io.specs.Counts.{Rose};
 ghost use Rattle.bye_cli.specs.Words.{IsNoCommand};
 ghost use Rattle.bye_cli.specs.Documents.{HasVerdict, Graph, Wanted, Triples, Rows, Good, Faulty, TooLong};
 ghost use Rattle.bye_cli.specs.Problem.{IsLearnedText, IsRefusalText, IsOutputText, IsAnswer, IsRead, IsWritten, uncovered_line};
-ghost use Rattle.bye_cli.specs.Causes.{IsUnread, IsCause, IsStopped, IsMissing, IsWithoutRow, IsQuiet, IsAskedCase, IsCoveredCase, IsUncoveredCase};
+ghost use Rattle.bye_cli.specs.Causes.{IsUnread, IsCause, IsStopped, IsMissing, IsWithoutRow, IsQuiet, IsAskedCase};
+ghost use Rattle.bye_cli.specs.Headline.{Headline};
 ghost use Rattle.bye_cli.specs.Statuses.{IsSilent, IsAnswered, Sends, SendsPart, status_of};
 
 use crate::answer::Answer;
 use crate::document::document;
 use crate::status::Status;
 use crate::words::read_words;
-use bye_io::{Folder, ReadErr, Sink, write_all};
+use bye_io::{Failed, Folder, ReadErr, Sink, write_all};
 use bye_ntriples::{NtErr, read_triples};
 use bye_pattern::{Learned, Table, TableErr, learn, read_table, write_conjunction};
 use bye_terms::{Memory, Text, Triple, Var};
@@ -109,6 +113,15 @@ fn answer<F: Folder>(alloc: Global, words: &[Text], folder: &mut F) -> Result<An
     Ok(answer)
 }
 
+/// Sends the whole text, in UTF-8.
+fn send<S: Sink>(text: &Text, out: &mut S) -> Result<(), Failed>
+    ensures whole { OnOk result (Appends (S.sent out.old) (S.sent out.new) (encode_utf8_all text.now)) }
+    ensures part { OnErr result (AppendsPart (S.sent out.old) (S.sent out.new) (encode_utf8_all text.now)) }
+    ensures rose { OnErr result (Rose (S.faults out.old) (S.faults out.new)) }
+{
+    write_all(out, text.as_str().as_bytes())
+}
+
 /// Runs the command that the words give, as `run_program` does.
 fn perform<F: Folder, S: Sink>(alloc: Global, words: &[Text], folder: &mut F, out: &mut S) -> Status
     ensures done { result ≡ Status.Done → Sends (IsLearnedText (F.files folder.old) words.now) (S.sent out.old) (S.sent out.new) }
@@ -126,7 +139,7 @@ fn perform<F: Folder, S: Sink>(alloc: Global, words: &[Text], folder: &mut F, ou
         Answer::Query(text) => (text, Status::Done),
         Answer::Refusal(text) => (text, Status::Refused),
     };
-    match write_all(out, text.as_str().as_bytes()) {
+    match send(text, out) {
         Ok(()) => status,
         Err(_) => Status::WriteFault,
     }
@@ -141,6 +154,10 @@ pub fn run_program<F: Folder, S: Sink, E: Sink>(
     out: &mut S,
     err: &mut E,
 ) -> Status
+    // What is learned is right, and a refusal is justified.
+    ensures headline { Headline (F.files folder.old) words.now (Rose (F.faults folder.old) (F.faults folder.new) ⊎ Rose (S.faults out.old) (S.faults out.new))
+        (S.sent out.old) (S.sent out.new) result }
+
     // What is written.
     ensures done { result ≡ Status.Done → Sends (IsLearnedText (F.files folder.old) words.now) (S.sent out.old) (S.sent out.new) }
     ensures refused { result ≡ Status.Refused → Sends (IsRefusalText (F.files folder.old) words.now) (S.sent out.old) (S.sent out.new) }
@@ -161,14 +178,12 @@ pub fn run_program<F: Folder, S: Sink, E: Sink>(
         → result ≡ Status.Document ⊎ result ≡ Status.Memory }
     ensures too_long { IsQuiet (F.files folder.old) (F.faults folder.old) (F.faults folder.new) → IsStopped (F.files folder.old) words.now TooLong
         → result ≡ Status.Limit ⊎ result ≡ Status.Memory }
+    ensures missing { IsQuiet (F.files folder.old) (F.faults folder.old) (F.faults folder.new) → IsMissing (F.files folder.old) words.now
+        → result ≡ Status.ReadFault ⊎ result ≡ Status.Memory }
     ensures without_row { IsQuiet (F.files folder.old) (F.faults folder.old) (F.faults folder.new) → IsWithoutRow (F.files folder.old) words.now
         → result ≡ Status.Example ⊎ result ≡ Status.Memory }
 
     // Where moreover the output's count did not rise, a question with a row is answered.
-    ensures covered { IsQuiet (F.files folder.old) (F.faults folder.old) (F.faults folder.new) → ¬ (Rose (S.faults out.old) (S.faults out.new))
-        → IsCoveredCase (F.files folder.old) words.now → result ≡ Status.Done ⊎ result ≡ Status.Memory }
-    ensures uncovered { IsQuiet (F.files folder.old) (F.faults folder.old) (F.faults folder.new) → ¬ (Rose (S.faults out.old) (S.faults out.new))
-        → IsUncoveredCase (F.files folder.old) words.now → result ≡ Status.Refused ⊎ result ≡ Status.Memory }
     ensures complete { IsQuiet (F.files folder.old) (F.faults folder.old) (F.faults folder.new) → ¬ (Rose (S.faults out.old) (S.faults out.new))
         → IsAskedCase (F.files folder.old) words.now → IsAnswered result }
 {

@@ -1,5 +1,5 @@
 -- What the tests of meeting and of covering tell, and what the learner's answer is.
-use Rattle.std.proofs.Common.{◌≡◌, refl, ◌<◌, length, get_or, arith, Bool, true, false, cond, not, ◌||◌, List, [], ◌∷◌, ◌++◌, map, Option, Some, None, inl, inr, ⊎_elim, sym, ◌∙◌, ap, subst, ◌↔◌, IsSome}
+use Rattle.std.proofs.Common.{◌≡◌, refl, ◌<◌, length, get_or, arith, Bool, true, false, cond, not, ◌||◌, List, [], ◌∷◌, ◌++◌, map, Option, Some, None, inl, inr, ⊎_elim, sym, ◌∙◌, ap, subst, ◌↔◌}
 use Rattle.std.specs.Prelude.{find}
 use Rattle.std.specs.List.{AllByRecursion, filter, list_any, list_all}
 use Rattle.std.proofs.lemmas.Slice.Eq.{bytes_eq-Decides}
@@ -10,7 +10,7 @@ use Rattle.bye_terms.proofs.Tests.{both_parts, both, one_part, second}
 use Rattle.bye_terms.proofs.Members.{in_cases, in_left, in_right, all_in, all_from}
 use Rattle.bye_pattern.specs.declared.slot.Slot.{Slot}
 use Rattle.bye_pattern.specs.declared.slot.Slot.TheVariants.{Var, Const}
-use Rattle.bye_pattern.specs.Mappings.{Name, Mapping, Pairs, row_mapping, NoRepeat, Binds}
+use Rattle.bye_pattern.specs.Mappings.{Name, Mapping, Pairs, row_mapping, NoRepeat, Exactly}
 use Rattle.bye_pattern.specs.Patterns.{Pattern, slot_under, slot_vars, vars, Becomes, Meets}
 use Rattle.bye_pattern.specs.Candidates.{candidates}
 use Rattle.bye_pattern.specs.Meeting as test
@@ -18,8 +18,10 @@ use Rattle.bye_pattern.specs.Covering.{is_named, contains, covers}
 use Rattle.bye_pattern.specs.Common.{IsCovered, IsUncovered}
 use Rattle.bye_pattern.specs.TrialOrder.{IsInTrialOrder}
 use Rattle.bye_pattern.specs.Tables.{TableValue}
-use Rattle.bye_pattern.specs.Learning.{wanted_of, IsWithin, IsStrongest, IsFirstUncovered}
+use Rattle.bye_pattern.specs.Learning.{wanted_of, AreFull, IsStrongest, common_query, IsFirstUncovered, IsLearnedQuery, IsJustRefused}
 use Rattle.bye_pattern.proofs.SameTerms.{terms_same, same_self}
+use Rattle.bye_pattern.proofs.Solutions.{meets_binds}
+use Rattle.bye_pattern.proofs.OneGroup.{common_class, common_fits, uncovered_none}
 use Rattle.bye_pattern.proofs.Standing.{candidate_meets, meets_candidate}
 
 -- tests of a list's elements
@@ -100,29 +102,18 @@ meets_true g p row e = let w = any_in (test.becomes (row_mapping row) p) g e in 
 true_meets : (g : List Statement) (p : Pattern) (row : Pairs) → Meets g (row_mapping row) p → test.meets g p row ≡ true
 true_meets g p row (f, inside, is) = in_any (test.becomes (row_mapping row) p) g f inside (true_becomes (row_mapping row) p f is)
 
--- a pattern that holds in a row has variables of that row alone
-bound_by : (m : Mapping) (s : Slot) (t : Term) (v : Name) → slot_under m s ≡ Some t → In (slot_vars s) v → Binds m v
-bound_by m (Var w) t v e (inl same) = subst (λ v. Binds m v) same (subst (λ o. IsSome o) (sym e) refl)
-bound_by m (Var w) t v e (inr h) = absurd h
-bound_by m (Const c) t v e h = absurd h
-
-meets_binds : (g : List Statement) (m : Mapping) (p : Pattern) (v : Name) → Meets g m p → In (vars p) v → Binds m v
-meets_binds g m p v (f, inside, is) h =
-    ⊎_elim (λ h. ⊎_elim (λ h. bound_by m p.s f.s v is.s h) (λ h. bound_by m p.p f.p v is.p h) (in_cases (slot_vars p.s) _ v h))
-    (λ h. bound_by m p.o f.o v is.o h) (in_cases (slot_vars p.s ++ slot_vars p.p) _ v h)
-
 -- the patterns that the learner keeps are those of the definition
-pub strongest : (g : List Statement) (t : TableValue) (first : Pairs) (kept ps : List Pattern) → AllByRecursion IsTriple g → AllByRecursion (IsWithin t.header) t.rows
+pub strongest : (g : List Statement) (t : TableValue) (first : Pairs) (kept ps : List Pattern) → AllByRecursion IsTriple g → AllByRecursion (Exactly t.header) (wanted_of t)
     → In t.rows first → NoRepeat first → kept ≡ filter (test.meets_all g t.rows) (candidates first g)
     → ((p : Pattern) → In ps p ↔ In kept p) → EachOnce ps → IsInTrialOrder ps → IsStrongest g t ps
-strongest g t first kept ps triples within inside no_repeat is same once sorted = record {
+strongest g t first kept ps triples bound inside no_repeat is same once sorted = record {
   members = λ p. (
     (λ h.
         let w = filtered (test.meets_all g t.rows) (candidates first g) p (subst (λ xs. In xs p) is ((same p).0 h)) in
         let c = candidate_meets first g p no_repeat w.0 in
         record {
           in_class = c.0;
-          over = λ v k. all_in (IsWithin t.header) t.rows first within inside v (meets_binds g (row_mapping first) p v c.1 k);
+          over = λ v k. ((all_in (Exactly t.header) (wanted_of t) (row_mapping first) bound (map_in row_mapping t.rows first inside)) v).0 (meets_binds g (row_mapping first) p v c.1 k);
           holds = all_from (λ m. Meets g m p) (wanted_of t) (λ m k.
               let r = in_map row_mapping t.rows m k in
               subst (λ m. Meets g m p) r.2 (meets_true g p r.0 (each_of (test.meets g p) t.rows w.1 r.0 r.1)));
@@ -215,3 +206,20 @@ first_uncovered g t ps x all e =
 pub first_row : (rows : List Pairs) (first : Pairs) → 0 < length rows → first ≡ get_or rows 0 first → In rows first
 first_row [] first h e = absurd (omega arith)
 first_row (r ∷ rows) first h e = inl (sym e)
+
+-- what is learned is of the class and fits, and what is refused is refused with cause
+pub learned : (g : List Statement) (t : TableValue) (ps : List Pattern) → AreFull t.header (wanted_of t) → IsStrongest g t ps
+    → ((x : Name) → In t.header x → IsCovered g t.header (wanted_of t) x) → IsLearnedQuery g t (common_query t.header ps)
+learned g t ps full all covered =
+    let class = common_class g t.header (wanted_of t) ps full all.members covered in
+    record {
+      strongest = record { triples = ps; strongest = all; covered = covered; query = refl };
+      in_class = class;
+      fits = common_fits g t.header (wanted_of t) ps full all.members class;
+    }
+
+pub refused : (g : List Statement) (t : TableValue) (x : Name) → AreFull t.header (wanted_of t) → IsFirstUncovered g t x → IsJustRefused g t x
+refused g t x full first = record {
+  first = first;
+  none = uncovered_none g t.header (wanted_of t) x full (subst (λ (vs : List Name). In vs x) (sym first.parts) (in_right first.before (x ∷ first.after) x (inl refl))) first.uncovered;
+}

@@ -1,6 +1,6 @@
 -- Header lines: what was read is written so, and what is written so is read.
-use Rattle.std.proofs.Common.{◌≡◌, refl, ℕ, zero, suc, Bool, true, false, cond, ◌==◌, ◌||◌, ◌<◌, List, [], ◌∷◌, ◌++◌, map, Option, Some, None, ◌⊎◌, inl, inr, ⊎_elim, length, sym, ◌∙◌, ap, subst, append_assoc, arith, length-append}
-use Rattle.std.specs.List.{AllByRecursion, Contains, flat_map, list_all}
+use Rattle.std.proofs.Common.{◌≡◌, refl, ℕ, Bool, true, false, cond, ◌==◌, ◌||◌, ◌<◌, List, [], ◌∷◌, ◌++◌, map, Option, Some, None, inl, inr, ⊎_elim, length, sym, ◌∙◌, ap, subst, append_assoc, arith, length-append}
+use Rattle.std.specs.List.{AllByRecursion, flat_map, list_all}
 use Rattle.std.specs.Str.{NonePass}
 use Rattle.std.proofs.lemmas.Grind.{flat_map-append}
 use Rattle.std.proofs.lemmas.List.{append-nil}

@@ -1,6 +1,9 @@
 pub mod SameTerms
 pub mod Standing
 pub mod Orders
+pub mod Merging
+pub mod Solutions
+pub mod OneGroup
 pub mod Covered
 pub mod HeaderLines
 pub mod RowLines

@@ -1,5 +1,5 @@
 -- The order of trial: it is total, a sort brings it about, and it stays where an element is left out.
-use Rattle.std.proofs.Common.{◌≡◌, refl, ℕ, suc, ◌+◌, ◌<◌, Bool, true, false, cond, not, ◌&&◌, ◌||◌, List, [], ◌∷◌, ◌++◌, length, get_or, drop, drop-cons, IsTrue, ◌↔◌, sym, ◌∙◌, ap, subst, arith, append_assoc, Ordering, Less, Equal, Greater, inl, inr, ⊎_elim}
+use Rattle.std.proofs.Common.{◌≡◌, refl, ℕ, suc, ◌+◌, ◌<◌, Bool, true, false, cond, not, ◌&&◌, ◌||◌, List, [], ◌∷◌, ◌++◌, length, get_or, drop, drop-cons, IsTrue, ◌↔◌, sym, ◌∙◌, ap, subst, arith, append_assoc, Ordering, Less, Equal, Greater, inr, ⊎_elim}
 use Rattle.std.specs.List.{AllByRecursion, Contains}
 use Rattle.std.specs.List.Sorted.{IsSortedBy}
 use Rattle.std.specs.Str.{bytes_eq}

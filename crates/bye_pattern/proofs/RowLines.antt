@@ -5,11 +5,10 @@ use Rattle.std.specs.List.{AllByRecursion, flat_map}
 use Rattle.std.proofs.lemmas.Grind.{flat_map-append}
 use Rattle.std.proofs.lemmas.List.{append-nil}
 use Rattle.bye_terms.specs.Iris.{IsIri}
-use Rattle.bye_terms.specs.Names.{is_iri}
 use Rattle.bye_terms.specs.Reading.{◌>>=◌, after_at, iri_at}
 use Rattle.bye_terms.specs.Spellings.{term_text}
 use Rattle.bye_terms.specs.declared.term.Term.{Term}
-use Rattle.bye_terms.specs.declared.term.Term.TheVariants.{Iri, Blank, Lit}
+use Rattle.bye_terms.specs.declared.term.Term.TheVariants.{Iri}
 use Rattle.bye_terms.proofs.Readings.{read_both, some_same, after_takes, after_again, iri_takes, iri_again, named}
 use Rattle.bye_pattern.specs.Mappings.{Name, Pairs}
 use Rattle.bye_pattern.specs.Tables.{names_of, IsRowOf, IsRows, tabbed, row_text}

@@ -1,11 +1,10 @@
 -- The class of one conjunction: queries of one node.
-use Rattle.std.specs.Prelude.{◌≡◌, true, [], ◌↔◌}
+use Rattle.std.specs.Prelude.{◌≡◌, true, false, [], ◌↔◌}
 use Rattle.std.specs.List.{AllByRecursion}
-use Rattle.bye_terms.specs.Members.{In}
+use Rattle.bye_terms.specs.Members.{In, EachOnce}
 use Rattle.bye_pattern.specs.declared.cond.Cond.{Cond}
 use Rattle.bye_pattern.specs.declared.cond.Cond.TheVariants as conds
 use Rattle.bye_terms.specs.Terms.{is_blank}
-use Rattle.std.specs.Prelude.{false}
 use Rattle.bye_pattern.specs.Mappings.{Name}
 use Rattle.bye_pattern.specs.Patterns.{Pattern, vars, all_vars, IsNamed}
 use Rattle.bye_pattern.specs.Trees.{Tree, node, leaf, Select, IsWellDesigned, own_triples, own_conds}
@@ -26,7 +25,7 @@ IsClassCond (conds.SameConst v c) = is_blank c ≡ false
 abbrev pub HasNoChild : Tree → Type 0
 HasNoChild (node ps cs f) = f ≡ leaf
 
--- SELECT DISTINCT of exactly the variables of the triples, over a well-designed tree of one node
+-- SELECT DISTINCT of exactly the variables of the triples, each once, over a well-designed tree of one node
 pub record InAnd (q : Select) : Type 0 where
   pub distinct : q.distinct ≡ true
   pub outer : q.outer ≡ []
@@ -34,6 +33,7 @@ pub record InAnd (q : Select) : Type 0 where
   pub one : HasNoChild q.tree
   pub triples : AllByRecursion IsClassTriple (own_triples q.tree)
   pub conds : AllByRecursion IsClassCond (own_conds q.tree)
+  pub once : EachOnce q.vars
   pub selects : (v : Name) → In q.vars v ↔ In (all_vars (own_triples q.tree)) v
 
 -- the same without conditions

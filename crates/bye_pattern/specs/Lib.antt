@@ -12,6 +12,7 @@ pub mod Covering
 pub mod Reading
 pub mod Tables
 pub mod Learning
+pub mod Laws
 pub mod TrialOrder
 pub mod Printed
 pub mod Candidates

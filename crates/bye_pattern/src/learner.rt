@@ -4,11 +4,11 @@ ghost use Rattle.std.specs.Prelude.{◌≡◌, ◌<◌, not, length, IfOk, find}
 ghost use Rattle.std.specs.List.{AllByRecursion, filter};
 ghost use Rattle.std.specs.Option.{option_map};
 ghost use Rattle.bye_terms.specs.Terms.{IsTriple};
-ghost use Rattle.bye_pattern.specs.Mappings.{NoRepeat};
+ghost use Rattle.bye_pattern.specs.Mappings.{NoRepeat, Exactly};
 ghost use Rattle.bye_pattern.specs.Candidates as candidate;
 ghost use Rattle.bye_pattern.specs.Meeting as meeting;
 ghost use Rattle.bye_pattern.specs.Covering as covering;
-ghost use Rattle.bye_pattern.specs.Learning.{IsWithin, IsStrongest, IsLearned};
+ghost use Rattle.bye_pattern.specs.Learning.{wanted_of, AreFull, IsStrongest, IsLearned};
 
 use crate::candidates::candidates;
 use crate::meeting::meets_all;
@@ -84,7 +84,7 @@ fn first_uncovered<'a>(vars: &'a [Var], patterns: &[TriplePattern]) -> Option<&'
 /// The triple patterns that all wanted rows have in common, in the order in which they are tried.
 fn strongest(alloc: Global, graph: &[Triple], wanted: &Table) -> Result<Vec<TriplePattern>, Memory>
     requires { 0 < length wanted.now.rows }
-    ensures { IfOk result (λ v. AllByRecursion IsTriple graph.now → AllByRecursion (IsWithin wanted.now.header) wanted.now.rows
+    ensures { IfOk result (λ v. AllByRecursion IsTriple graph.now → AllByRecursion (Exactly wanted.now.header) (wanted_of wanted.now)
         → IsStrongest graph.now wanted.now v.items) }
 {
     let rows = wanted.rows();
@@ -92,10 +92,11 @@ fn strongest(alloc: Global, graph: &[Triple], wanted: &Table) -> Result<Vec<Trip
     in_trial_order(alloc, kept)
 }
 
-/// Learns from the wanted rows, of which there is one at least.
+/// The query of all triple patterns that the wanted rows have in common, or the first variable that none of them
+/// contains. There is one row at least.
 pub fn learn(alloc: Global, graph: &[Triple], wanted: &Table) -> Result<Learned, Memory>
     requires { 0 < length wanted.now.rows }
-    ensures { IfOk result (λ learned. AllByRecursion IsTriple graph.now → AllByRecursion (IsWithin wanted.now.header) wanted.now.rows
+    ensures { IfOk result (λ learned. AllByRecursion IsTriple graph.now → AreFull wanted.now.header (wanted_of wanted.now)
         → IsLearned graph.now wanted.now learned) }
 {
     let patterns = strongest(alloc, graph, wanted)?;

@@ -1,7 +1,7 @@
 ghost use Rattle.std.specs.Prelude.{◌≡◌, List, IfOk, IsErrOf};
 ghost use Rattle.std.specs.Str.{chars};
 ghost use Rattle.bye_pattern.specs.Mappings.{Pairs};
-ghost use Rattle.bye_pattern.specs.Tables.{TableValue, IsHeader, IsRows, IsTable, IsFirstTable, OneTable};
+ghost use Rattle.bye_pattern.specs.Tables.{TableValue, IsHeader, IsRows, IsTable, IsFirstTable};
 
 use crate::cells::cells;
 use crate::header::header;
@@ -106,11 +106,6 @@ pub fn read_table(alloc: Global, bytes: &[u8]) -> Result<Table, TableErr>
         Err(_) => Err(TableErr::NotFirstTable),
     }
 }
-
-/// A law of the definition: a document of the first form is one table.
-pub fn one_table()
-    ensures { OneTable }
-{}
 
 #[cfg(test)]
 mod tests {

@@ -1,12 +1,11 @@
-use Rattle.std.proofs.Common.{◌≡◌, ◌<◌, length, Bool, false, ◌==◌, List, ℕ, subst, sym, arith}
+use Rattle.std.proofs.Common.{◌≡◌, ◌<◌, length, Bool, false, ◌==◌, List, subst, arith}
 use Rattle.std.proofs.lemmas.Result.{err_from_is_err_and}
 use Rattle.bye_terms.specs.Terms.{Statement}
 use Rattle.bye_pattern.specs.Mappings.{Pairs}
 use Rattle.bye_cli.specs.Documents.{Files, HasVerdict, Wanted, Rows, Good}
 use Rattle.bye_cli.specs.Words.{Learn}
-use Rattle.bye_cli.specs.Problem.{IsGiven, IsRead, IsWritten}
-use Rattle.bye_cli.specs.Causes.{IsUnread, IsCause}
-use Rattle.bye_cli.specs.declared.status.Status.{Status}
+use Rattle.bye_cli.specs.Problem.{IsGiven, IsAsked, IsRead, IsWritten}
+use Rattle.bye_cli.specs.Causes.{IsUnread}
 use Rattle.bye_cli.proofs.Asked.{is_read, is_answer}
 use Rattle.bye_cli.proofs.Settled.{graph_unread, wanted_unread}
 use Rattle.bye_cli.proofs.program.answer.Goals as goal
@@ -39,4 +38,5 @@ returns-clause-answer g c =
       graph_held = c.in_ok-graph.ensures.read;
       wanted_held = wanted_held;
     } in
-    is_answer _ _ _ _ c.in_ok-answer.answer (record { given = given; some_row = row }) (written (is_read _ _ _ _ given))
+    let asked : IsAsked (g.F.Folder.files c.args.folder.now) c.args.words.now c.in_ok-graph.graph.items c.in_ok-wanted.wanted = record { given = given; some_row = row } in
+    is_answer _ _ _ _ c.in_ok-answer.answer asked (written (is_read _ _ _ _ asked))

@@ -1,5 +1,5 @@
-use Rattle.bye_cli.proofs.Exclusive.{Faults, Long, Bare}
-use Rattle.bye_cli.proofs.Settled.{Run, words_alone, exactly, exactly_done, exactly_refused, exactly_answered}
+use Rattle.bye_cli.proofs.Exclusive.{Faults, Long, Missing, Bare}
+use Rattle.bye_cli.proofs.Settled.{Run, words_alone, exactly, answered, headline}
 use Rattle.bye_cli.proofs.program.run_program.Given.{Over}
 use Rattle.bye_cli.proofs.program.run_program.Goals as goal
 
@@ -26,11 +26,11 @@ returns-clause-too_long g c = λ quiet stopped. exactly _ _ _ _ _ _ _ _ c.perfor
 pub returns-clause-without_row : goal.returns-clause-without_row
 returns-clause-without_row g c = λ quiet bare. exactly _ _ _ _ _ _ _ _ c.perform.result (run_of g c) quiet Bare bare
 
-pub returns-clause-covered : goal.returns-clause-covered
-returns-clause-covered g c = exactly_done _ _ _ _ _ _ _ _ c.perform.result (run_of g c)
-
-pub returns-clause-uncovered : goal.returns-clause-uncovered
-returns-clause-uncovered g c = exactly_refused _ _ _ _ _ _ _ _ c.perform.result (run_of g c)
+pub returns-clause-missing : goal.returns-clause-missing
+returns-clause-missing g c = λ quiet missing. exactly _ _ _ _ _ _ _ _ c.perform.result (run_of g c) quiet Missing missing
 
 pub returns-clause-complete : goal.returns-clause-complete
-returns-clause-complete g c = exactly_answered _ _ _ _ _ _ _ _ c.perform.result (run_of g c)
+returns-clause-complete g c = answered _ _ _ _ _ _ _ _ c.perform.result (run_of g c)
+
+pub returns-clause-headline : goal.returns-clause-headline
+returns-clause-headline g c = headline _ _ _ _ _ _ _ _ c.perform.result (run_of g c)

@@ -1,5 +1,5 @@
-use Rattle.std.proofs.Common.{◌≡◌, refl, ℕ, ◌∷◌, [], List, Bool, true, false, IsTrue, ◌↔◌, length, get_or, codes, sym, ◌∙◌, ap, ⊎_elim, arith}
-use Rattle.bye_cli.specs.Words.{Word, IsLearn, Command, Learn, IsCommand}
+use Rattle.std.proofs.Common.{◌≡◌, refl, ℕ, ◌∷◌, [], List, Bool, false, IsTrue, ◌↔◌, get_or, codes, ◌∙◌, ap, ⊎_elim}
+use Rattle.bye_cli.specs.Words.{Word, Command, Learn, IsCommand}
 use Rattle.bye_cli.proofs.Commands.{five_long, two_orders}
 use Rattle.bye_cli.proofs.Asked.{five_words, graph_first, wanted_first}
 use Rattle.bye_cli.proofs.words.read_words.Goals as goal

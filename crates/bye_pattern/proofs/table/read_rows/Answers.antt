@@ -1,4 +1,4 @@
-use Rattle.std.proofs.Common.{◌≡◌, List, ℕ, Bool, true, false, [], ◌∷◌, ◌++◌, ◌<◌, length, sym, ◌∙◌, ap, arith}
+use Rattle.std.proofs.Common.{◌≡◌, List, ℕ, [], ◌∷◌, ◌++◌, ◌<◌, length, sym, ◌∙◌, ap, arith}
 use Rattle.bye_terms.proofs.Tests.{not_both}
 use Rattle.bye_pattern.specs.Mappings.{Pairs}
 use Rattle.bye_pattern.specs.Tables.{row_text}
