@@ -39,7 +39,7 @@ each_of f [] e x h = absurd h
 each_of f (y ∷ xs) e x (inl same) = sym (ap f same) ∙ (both_parts _ _ e).0
 each_of f (y ∷ xs) e x (inr h) = each_of f xs (both_parts _ _ e).1 x h
 
-of_each : {X : Type 0} (f : X → Bool) (xs : List X) → ((x : X) → In xs x → f x ≡ true) → list_all f xs ≡ true
+pub of_each : {X : Type 0} (f : X → Bool) (xs : List X) → ((x : X) → In xs x → f x ≡ true) → list_all f xs ≡ true
 of_each f [] h = refl
 of_each f (x ∷ xs) h = both _ _ (h x (inl refl)) (of_each f xs (λ y k. h y (inr k)))
 
@@ -56,7 +56,7 @@ kept_later : {X : Type 0} (b : Bool) (y : X) (xs : List X) (x : X) → In xs x �
 kept_later true y xs x h = inr h
 kept_later false y xs x h = h
 
-in_filtered : {X : Type 0} (f : X → Bool) (xs : List X) (x : X) → In xs x → f x ≡ true → In (filter f xs) x
+pub in_filtered : {X : Type 0} (f : X → Bool) (xs : List X) (x : X) → In xs x → f x ≡ true → In (filter f xs) x
 in_filtered f [] x h e = absurd h
 in_filtered f (y ∷ xs) x (inl same) e = subst (λ b. In (cond b (y ∷ filter f xs) (filter f xs)) x) (sym (ap f same ∙ e)) (inl same)
 in_filtered f (y ∷ xs) x (inr h) e = kept_later (f y) y (filter f xs) x (in_filtered f xs x h e)
@@ -99,7 +99,7 @@ true_becomes m p f h = both _ _ (both _ _ (some_is_term _ _ h.s) (some_is_term _
 meets_true : (g : List Statement) (p : Pattern) (row : Pairs) → test.meets g p row ≡ true → Meets g (row_mapping row) p
 meets_true g p row e = let w = any_in (test.becomes (row_mapping row) p) g e in (w.0, w.1, becomes_true (row_mapping row) p w.0 w.2)
 
-true_meets : (g : List Statement) (p : Pattern) (row : Pairs) → Meets g (row_mapping row) p → test.meets g p row ≡ true
+pub true_meets : (g : List Statement) (p : Pattern) (row : Pairs) → Meets g (row_mapping row) p → test.meets g p row ≡ true
 true_meets g p row (f, inside, is) = in_any (test.becomes (row_mapping row) p) g f inside (true_becomes (row_mapping row) p f is)
 
 -- the patterns that the learner keeps are those of the definition

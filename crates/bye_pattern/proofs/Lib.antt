@@ -4,8 +4,16 @@ pub mod Orders
 pub mod Merging
 pub mod Solutions
 pub mod OneGroup
+pub mod FourRules
+pub mod Places
+pub mod Reaching
 pub mod Covered
 pub mod HeaderLines
 pub mod RowLines
 pub mod RowMappings
 pub mod TableTexts
+pub mod WorkedTerms
+pub mod WorkedAnswers
+pub mod WorkedOptional
+pub mod WorkedKept
+pub mod WorkedClaims

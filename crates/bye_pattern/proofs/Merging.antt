@@ -26,7 +26,7 @@ some_or_none (Some t) = inl refl
 pub not_bound : (o : Option Term) → o ≡ None → IsSome o → ⊥
 not_bound o e h = let k = subst (λ o. IsSome o) e h in cc
 
-same_value : {s t : Term} → ◌≡◌ {A = Option Term} (Some s) (Some t) → s ≡ t
+pub same_value : {s t : Term} → ◌≡◌ {A = Option Term} (Some s) (Some t) → s ≡ t
 same_value e = cc
 
 pub nothing_bound : (m : Mapping) → ((v : Name) → Binds m v → ⊥) → m ≡ nothing
@@ -67,13 +67,16 @@ pub restrictions_agree : (xs ys : List Name) (m : Mapping) → Compatible (restr
 restrictions_agree xs ys m v s t d e =
     same_value (sym (restrict_some xs m v s d).1 ∙ (restrict_some ys m v t e).1)
 
--- a mapping is its restriction to what it binds
-pub restrict_whole : (vs : List Name) (m : Mapping) → Exactly vs m → m ≡ restrict vs m
-restrict_whole vs m exactly = λ i v. at v i
+-- a mapping is its restriction to variables among which it binds all that it binds
+pub restrict_within : (vs : List Name) (m : Mapping) → ((v : Name) → Binds m v → In vs v) → m ≡ restrict vs m
+restrict_within vs m within = λ i v. at v i
   where
     at : (v : Name) → m v ≡ restrict vs m v
-    at v = ⊎_elim (λ h. sym (restrict_in vs m v ((exactly v).0 h)))
+    at v = ⊎_elim (λ h. sym (restrict_in vs m v (within v h)))
         (λ e. e ∙ sym (unbound (restrict vs m v) (λ h. not_bound (m v) e (restrict_binds vs m v h).1))) (some_or_none (m v))
+
+pub restrict_whole : (vs : List Name) (m : Mapping) → Exactly vs m → m ≡ restrict vs m
+restrict_whole vs m exactly = restrict_within vs m (λ v h. (exactly v).0 h)
 
 -- merging
 first_right : (o p : Option Term) (t : Term) → ((s : Term) → o ≡ Some s → s ≡ t) → p ≡ Some t → first_of o p ≡ Some t

@@ -1,5 +1,6 @@
 -- The answers of a query of one group, and when such a query fits.
-use Rattle.std.proofs.Common.{◌≡◌, refl, List, [], ◌∷◌, ◌++◌, map, ◌⊎◌, inl, inr, ⊎_elim, sym, ◌∙◌, subst, ◌↔◌}
+use Rattle.std.proofs.Common.{◌≡◌, refl, List, [], ◌∷◌, ◌++◌, map, ap, Some, ◌⊎◌, inl, inr, ⊎_elim, sym, ◌∙◌, subst, ◌↔◌}
+use Rattle.std.specs.Option.{is_some}
 use Rattle.std.specs.List.{AllByRecursion}
 use Rattle.bye_terms.specs.Terms.{Statement}
 use Rattle.bye_terms.specs.Members.{In}
@@ -7,16 +8,20 @@ use Rattle.bye_terms.proofs.Members.{in_cases, in_left, in_right, all_in, all_fr
 use Rattle.bye_pattern.specs.declared.cond.Cond.{Cond}
 use Rattle.bye_pattern.specs.Mappings.{Name, Mapping, Binds, Exactly}
 use Rattle.bye_pattern.specs.Patterns.{Pattern, vars, all_vars, Meets}
-use Rattle.bye_pattern.specs.Conditions.{Expr, cond_expr, cond_vars, AllHold, AllHoldExpr}
+use Rattle.bye_pattern.specs.Conditions.{Expr, cond_expr, Holds, AllHold, AllHoldExpr}
 use Rattle.bye_pattern.specs.Algebra.{Filter, IsBgpRow, IsRow, IsAnswer}
-use Rattle.bye_pattern.specs.Trees.{Tree, node, leaf, body, Select, alg, own_triples, own_conds, IsWellDesigned}
-use Rattle.bye_pattern.specs.Conjuncts.{MeetsCond}
+use Rattle.bye_pattern.specs.Trees.{Tree, node, Forest, leaf, more, body, Select, alg, own_triples, own_conds}
+use Rattle.bye_pattern.specs.declared.cond.Cond.TheVariants as conds
+use Rattle.bye_pattern.specs.declared.rule.Rule.{Rule}
+use Rattle.bye_pattern.specs.declared.rule.Rule.TheVariants.{NoTriples, NoNewVariable, NotWellDesigned, UnsafeCondition}
+use Rattle.bye_pattern.specs.Designed.{IsSafe, Keeps, IsWellDesigned}
+use Rattle.bye_pattern.specs.Conjuncts.{MeetsCond, Less, Drops, DropsIn, DropsConjunct}
 use Rattle.bye_pattern.specs.Classes.{IsClassTriple, HasNoChild, InAnd, InAndPlain}
 use Rattle.bye_pattern.specs.Fitting.{Fits, NoFit}
 use Rattle.bye_pattern.specs.Common.{IsCommon, IsCovered, IsUncovered}
 use Rattle.bye_pattern.specs.Learning.{AreFull, common_query}
 use Rattle.bye_pattern.specs.Laws.{MeetsAll, AreCommon}
-use Rattle.bye_pattern.proofs.Merging.{in_or_not, restrict_whole}
+use Rattle.bye_pattern.proofs.Merging.{bound, in_or_not, restrict_whole}
 use Rattle.bye_pattern.proofs.Solutions.{row_meets, meets_row}
 
 -- the filter of a group with plain conditions alone
@@ -48,15 +53,15 @@ parts_row g (node ps cs f) outer m one none row all =
     subst (λ es. Row g es (node ps cs f) m) (sym none) plain
 
 -- in a well-designed root the variables of a condition are those of the triples
-root_safe : (t : Tree) → IsWellDesigned t → AllByRecursion (λ c. (v : Name) → In (cond_vars c) v → In (all_vars (own_triples t)) v ⊎ In [] v) (own_conds t)
-root_safe (node ps cs f) designed = designed.0.safe
+root_safe : (t : Tree) → IsWellDesigned t → AllByRecursion (IsSafe [] (own_triples t)) (own_conds t)
+root_safe (node ps cs f) designed = designed.0 UnsafeCondition
 
-meets_conds : (m : Mapping) (vs : List Name) (cs : List Cond) → ((v : Name) → In vs v → Binds m v) → AllByRecursion (λ c. (v : Name) → In (cond_vars c) v → In vs v ⊎ In [] v) cs
+meets_conds : (m : Mapping) (ps : List Pattern) (cs : List Cond) → ((v : Name) → In (all_vars ps) v → Binds m v) → AllByRecursion (IsSafe [] ps) cs
     → AllHold cs m → AllByRecursion (MeetsCond m) cs
-meets_conds m vs [] binds safe all = tt
-meets_conds m vs (c ∷ cs) binds (s, safe) (h, all) = (
+meets_conds m ps [] binds safe all = tt
+meets_conds m ps (c ∷ cs) binds (s, safe) (h, all) = (
   ((λ v k. ⊎_elim (λ k. binds v k) (λ k. absurd k) (s v k)), h),
-  meets_conds m vs cs binds safe all,
+  meets_conds m ps cs binds safe all,
 )
 
 conds_met : (m : Mapping) (cs : List Cond) → AllByRecursion (MeetsCond m) cs → AllHold cs m
@@ -80,7 +85,7 @@ answer_meets g q m class (n, row, e) =
     let is : MeetsAll g q n = record {
       binds = exactly;
       triples = whole.1;
-      conds = meets_conds n (all_vars ps) (own_conds q.tree) (λ v h. (whole.0 v).1 h) (root_safe q.tree class.designed) parts.1;
+      conds = meets_conds n ps (own_conds q.tree) (λ v h. (whole.0 v).1 h) (root_safe q.tree class.designed) parts.1;
     } in
     subst (MeetsAll g q) (sym (e ∙ sym (restrict_whole q.vars n exactly))) is
 
@@ -135,6 +140,17 @@ pub uncovered_none : (g : List Statement) (header : List Name) (wanted : List Ma
 uncovered_none g header wanted x full h uncovered q class fits =
     let c = fitting_covers g header wanted q full class.in_class fits x h in uncovered c.0 c.1 c.2
 
+-- a root that has a variable and safe conditions keeps the rules
+some_pattern : (ps : List Pattern) (v : Name) → In (all_vars ps) v → ps ≡ [] → ⊥
+some_pattern [] v h e = h
+some_pattern (p ∷ ps) v h e = cc
+
+pub root_rules : (ps : List Pattern) (cs : List Cond) (v : Name) → In (all_vars ps) v → AllByRecursion (IsSafe [] ps) cs → (rule : Rule) → Keeps [] [] [] ps cs rule
+root_rules ps cs v h safe NoTriples = some_pattern ps v h
+root_rules ps cs v h safe NoNewVariable = (v, (h, λ k. k))
+root_rules ps cs v h safe NotWellDesigned = ((λ w k above. above), λ w new beside. beside)
+root_rules ps cs v h safe UnsafeCondition = safe
+
 -- the query of all common patterns, where they contain each variable
 pub common_class : (g : List Statement) (header : List Name) (wanted : List Mapping) (ps : List Pattern) → AreFull header wanted → AreCommon g header wanted ps
     → ((x : Name) → In header x → IsCovered g header wanted x) → InAndPlain (common_query header ps)
@@ -145,7 +161,7 @@ common_class g header wanted ps full common covered =
       in_class = record {
         distinct = refl;
         outer = refl;
-        designed = (record { shared = λ v h k. k; new = (x.0, inside x.0 x.1, λ h. h); safe = tt }, tt);
+        designed = (root_rules ps [] x.0 (inside x.0 x.1) tt, tt);
         one = refl;
         triples = all_from IsClassTriple ps (λ p h. ((common p).0 h).in_class);
         conds = tt;
@@ -195,3 +211,61 @@ none_uncovered g header wanted ps full common none =
     absurd (none (common_query header ps) class (common_fits g header wanted ps full common class)))
     (λ w. w)
     (some_uncovered g header wanted ps common header)
+
+-- fitting, by meeting
+fits_meets_each : (g : List Statement) (q : Select) → InAnd q → (rows : List Mapping) → AllByRecursion (IsAnswer g q.vars (alg q)) rows → AllByRecursion (MeetsAll g q) rows
+fits_meets_each g q class [] all = tt
+fits_meets_each g q class (m ∷ rows) all = (answer_meets g q m class all.0, fits_meets_each g q class rows all.1)
+
+meets_fits_each : (g : List Statement) (q : Select) → InAnd q → (rows : List Mapping) → AllByRecursion (MeetsAll g q) rows → AllByRecursion (IsAnswer g q.vars (alg q)) rows
+meets_fits_each g q class [] all = tt
+meets_fits_each g q class (m ∷ rows) all = (meets_answer g q m class all.0, meets_fits_each g q class rows all.1)
+
+none_meets : (g : List Statement) (q : Select) → InAnd q → (rows : List Mapping) → AllByRecursion (λ m. IsAnswer g q.vars (alg q) m → ⊥) rows → AllByRecursion (λ m. MeetsAll g q m → ⊥) rows
+none_meets g q class [] all = tt
+none_meets g q class (m ∷ rows) all = ((λ h. all.0 (meets_answer g q m class h)), none_meets g q class rows all.1)
+
+none_answers : (g : List Statement) (q : Select) → InAnd q → (rows : List Mapping) → AllByRecursion (λ m. MeetsAll g q m → ⊥) rows → AllByRecursion (λ m. IsAnswer g q.vars (alg q) m → ⊥) rows
+none_answers g q class [] all = tt
+none_answers g q class (m ∷ rows) all = ((λ h. all.0 (answer_meets g q m class h)), none_answers g q class rows all.1)
+
+pub fits_meets : (g : List Statement) (wanted unwanted : List Mapping) (q : Select) → InAnd q → Fits g wanted unwanted q
+    → AllByRecursion (MeetsAll g q) wanted × AllByRecursion (λ m. MeetsAll g q m → ⊥) unwanted
+fits_meets g wanted unwanted q class fits = (fits_meets_each g q class wanted fits.all, none_meets g q class unwanted fits.none)
+
+pub meets_fits : (g : List Statement) (wanted unwanted : List Mapping) (q : Select) → InAnd q → AllByRecursion (MeetsAll g q) wanted × AllByRecursion (λ m. MeetsAll g q m → ⊥) unwanted
+    → Fits g wanted unwanted q
+meets_fits g wanted unwanted q class h = record { all = meets_fits_each g q class wanted h.0; none = none_answers g q class unwanted h.1 }
+
+-- without a conjunct
+less_all : {X : Type 0} (P : X → Type 0) (xs ys : List X) → Less xs ys → AllByRecursion P xs → AllByRecursion P ys
+less_all P [] ys h all = absurd h
+less_all P (x ∷ xs) ys (inl e) all = subst (AllByRecursion P) (sym e) all.1
+less_all P (x ∷ xs) ys (inr (zs, less, e)) all = subst (AllByRecursion P) (sym e) (all.0, less_all P xs zs less all.1)
+
+no_drop_below : (f e : Forest) → f ≡ leaf → DropsIn f e → ⊥
+no_drop_below leaf e one h = h
+no_drop_below (more t f) e one h = cc
+
+drop_meets : (g : List Statement) (m : Mapping) (t u : Tree) → HasNoChild t → Drops t u → AllByRecursion (Meets g m) (own_triples t) → AllByRecursion (MeetsCond m) (own_conds t)
+    → AllByRecursion (Meets g m) (own_triples u) × AllByRecursion (MeetsCond m) (own_conds u)
+drop_meets g m (node ps cs f) u one (inl (qs, less, e)) ts ds =
+    subst (λ u. AllByRecursion (Meets g m) (own_triples u) × AllByRecursion (MeetsCond m) (own_conds u)) (sym e) (less_all (Meets g m) ps qs less ts, ds)
+drop_meets g m (node ps cs f) u one (inr (inl (es, less, e))) ts ds =
+    subst (λ u. AllByRecursion (Meets g m) (own_triples u) × AllByRecursion (MeetsCond m) (own_conds u)) (sym e) (ts, less_all (MeetsCond m) cs es less ds)
+drop_meets g m (node ps cs f) u one (inr (inr (e, drops, is))) ts ds = absurd (no_drop_below f e one drops)
+
+pub dropped_answer : (g : List Statement) (q r : Select) (m : Mapping) → InAnd q → InAnd r → DropsConjunct q r → IsAnswer g q.vars (alg q) m → IsAnswer g r.vars (alg r) m
+dropped_answer g q r m class rest (t, drops, e) answer =
+    let is = answer_meets g q m class answer in
+    let w = drop_meets g m q.tree t class.one drops is.triples is.conds in
+    let tree : r.tree ≡ t = ap (λ (s : Select). s.tree) e in
+    let vars : r.vars ≡ q.vars = ap (λ (s : Select). s.vars) e in
+    meets_answer g r m rest (record {
+      binds = subst (λ vs. Exactly vs m) (sym vars) is.binds;
+      triples = subst (λ t. AllByRecursion (Meets g m) (own_triples t)) (sym tree) w.0;
+      conds = subst (λ t. AllByRecursion (MeetsCond m) (own_conds t)) (sym tree) w.1;
+    })
+
+pub bound_true : (g : List Statement) (ps : List Pattern) (m : Mapping) (v : Name) → IsBgpRow g ps m → In (all_vars ps) v → Holds m (conds.Bound v)
+bound_true g ps m v row h = let w = bound (m v) (((row_meets g ps m row).0 v).1 h) in ap (λ o. Some (is_some o)) w.1

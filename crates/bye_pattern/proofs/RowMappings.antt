@@ -13,7 +13,7 @@ not_some : IsSome {T = Term} None → ⊥
 not_some h = cc
 
 -- a row binds the names that stand in it
-binds : (row : Pairs) (v : Name) → IsSome (row_mapping row v) ↔ In (names_of row) v
+pub binds : (row : Pairs) (v : Name) → IsSome (row_mapping row v) ↔ In (names_of row) v
 binds [] v = (λ h. absurd (not_some h), λ h. absurd h)
 binds (e ∷ row) v =
     elim (bytes_eq e.0 v) as (λ b. bytes_eq e.0 v ≡ b → IsSome (cond b (Some e.1) (row_mapping row v)) ↔ ((e.0 ≡ v) ⊎ In (names_of row) v)) [

@@ -7,7 +7,8 @@ use Rattle.bye_pattern.specs.declared.cond.Cond.TheVariants as conds
 use Rattle.bye_terms.specs.Terms.{is_blank}
 use Rattle.bye_pattern.specs.Mappings.{Name}
 use Rattle.bye_pattern.specs.Patterns.{Pattern, vars, all_vars, IsNamed}
-use Rattle.bye_pattern.specs.Trees.{Tree, node, leaf, Select, IsWellDesigned, own_triples, own_conds}
+use Rattle.bye_pattern.specs.Trees.{Tree, node, leaf, Select, own_triples, own_conds}
+use Rattle.bye_pattern.specs.Designed.{IsWellDesigned}
 
 -- a triple of the class: it has a variable, and no constant is blank
 pub record IsClassTriple (p : Pattern) : Type 0 where

@@ -4,7 +4,7 @@ use Rattle.bye_pattern.specs.declared.cond.Cond.{Cond}
 use Rattle.bye_pattern.specs.Mappings.{Name, Mapping, Binds}
 use Rattle.bye_pattern.specs.Patterns.{Pattern}
 use Rattle.bye_pattern.specs.Conditions.{Holds, cond_vars}
-use Rattle.bye_pattern.specs.Trees.{Tree, node, Forest, leaf, more}
+use Rattle.bye_pattern.specs.Trees.{Tree, node, Forest, leaf, more, Select}
 use Rattle.bye_terms.specs.Members.{In}
 
 -- the mapping binds each variable of the condition, and the condition is true
@@ -25,3 +25,7 @@ abbrev mutual
   pub DropsIn : Forest → Forest → Type 0
   DropsIn leaf e = ⊥
   DropsIn (more t f) e = ((u : Tree) × Drops t u × (e ≡ more u f)) ⊎ ((g : Forest) × DropsIn f g × (e ≡ more t g))
+
+-- the query without one of the conjuncts of its tree
+abbrev pub DropsConjunct : Select → Select → Type 0
+DropsConjunct q r = (t : Tree) × Drops q.tree t × (r ≡ record { distinct = q.distinct; vars = q.vars; tree = t; outer = q.outer })

@@ -3,10 +3,17 @@ pub mod Patterns
 pub mod Conditions
 pub mod Algebra
 pub mod Trees
+pub mod Designed
 pub mod Nodes
 pub mod Conjuncts
 pub mod Classes
 pub mod Fitting
+pub mod Domains
+pub mod Optional
+pub mod Starting
+pub mod Keeping
+pub mod Certificates
+pub mod Worked
 pub mod Common
 pub mod Covering
 pub mod Reading

@@ -1,11 +1,9 @@
--- Trees of groups as plain data, their translation to the algebra (SPARQL 1.1 Query, section 18.2), and well-designed trees.
-use Rattle.std.specs.Prelude.{Bool, true, List, [], ◌++◌, ◌⊎◌, map}
-use Rattle.std.specs.List.{AllByRecursion}
-use Rattle.bye_terms.specs.Members.{In}
+-- Trees of groups as plain data, their translation to the algebra (SPARQL 1.1 Query, section 18.2).
+use Rattle.std.specs.Prelude.{Bool, true, List, [], ◌++◌, map}
 use Rattle.bye_pattern.specs.declared.cond.Cond.{Cond}
 use Rattle.bye_pattern.specs.Mappings.{Name}
 use Rattle.bye_pattern.specs.Patterns.{Pattern, all_vars}
-use Rattle.bye_pattern.specs.Conditions.{Expr, cond_expr, cond_vars}
+use Rattle.bye_pattern.specs.Conditions.{Expr, cond_expr}
 use Rattle.bye_pattern.specs.Algebra.{Alg, Bgp, LeftJoin, Filter}
 
 -- a node has triple patterns, plain conditions and child nodes; a child is an OPTIONAL group
@@ -58,23 +56,3 @@ abbrev mutual
   pub forest_vars : Forest → List Name
   forest_vars leaf = []
   forest_vars (more t f) = tree_vars t ++ forest_vars f
-
--- what is asked of one node whose parent's triples have these variables, where `seen` are those of all earlier nodes
-pub record IsGroup (parent seen : List Name) (ps : List Pattern) (cs : List Cond) : Type 0 where
-  -- a variable that is not new occurs in the parent's triples, and no new one occurs in an earlier node that is no ancestor
-  pub shared : (v : Name) → In (all_vars ps) v → In seen v → In parent v
-  -- there is a new variable, and so a triple pattern
-  pub new : (v : Name) × In (all_vars ps) v × (In seen v → ⊥)
-  -- each variable of a condition occurs in the node's own triples or in its parent's
-  pub safe : AllByRecursion (λ c. (v : Name) → In (cond_vars c) v → In (all_vars ps) v ⊎ In parent v) cs
-
-abbrev mutual
-  pub IsTree : List Name → List Name → Tree → Type 0
-  IsTree parent seen (node ps cs f) = IsGroup parent seen ps cs × IsForest (all_vars ps) (seen ++ all_vars ps) f
-
-  pub IsForest : List Name → List Name → Forest → Type 0
-  IsForest parent seen leaf = Unit {0}
-  IsForest parent seen (more t f) = IsTree parent seen t × IsForest parent (seen ++ tree_vars t) f
-
-abbrev pub IsWellDesigned : Tree → Type 0
-IsWellDesigned t = IsTree [] [] t

@@ -3,6 +3,7 @@
 
 mod candidates;
 mod cells;
+mod class;
 mod cond;
 mod header;
 mod laws;
@@ -13,15 +14,28 @@ mod pattern;
 mod printer;
 mod ranked;
 mod row;
+mod rule;
 mod slot;
 mod table;
+mod worked;
 
+pub use class::Class;
 pub use cond::Cond;
-pub use laws::{answers_of_one_group, common_patterns_fit, none_fits_where_uncovered, one_table};
+pub use laws::{
+    answers_bind_the_tree, answers_of_one_group, bound_is_true, broken_or_designed,
+    classes_at_one_node, common_patterns_fit, designed_at_once, domains_by_numbers,
+    dropping_keeps_answers, fitting_is_meeting, none_fits_where_uncovered, one_table,
+};
 pub use learner::{Learned, learn};
 pub use node::Node;
 pub use pattern::TriplePattern;
 pub use printer::write_conjunction;
 pub use row::Row;
+pub use rule::Rule;
 pub use slot::{Constant, Slot};
 pub use table::{Table, TableErr, read_table};
+pub use worked::{
+    claims_of_admitted, claims_of_domains, claims_of_extension, claims_of_fork, claims_of_no_root,
+    claims_of_uncovered, conditions_are_tried_first, designed_trees, errors_drop_rows,
+    optional_answers, optional_classes, written_texts,
+};

@@ -1,0 +1,114 @@
+-- The tree with which a query is begun: at the node of each domain class every conjunct that the wanted rows of that domain meet.
+use Rattle.std.specs.Prelude.{◌≡◌, List, [], ◌∷◌, ◌⊎◌, ◌↔◌}
+use Rattle.std.specs.List.{AllByRecursion}
+use Rattle.bye_terms.specs.Terms.{Statement}
+use Rattle.bye_terms.specs.Members.{In, EachOnce}
+use Rattle.bye_pattern.specs.declared.cond.Cond.{Cond}
+use Rattle.bye_pattern.specs.declared.cond.Cond.TheVariants as conds
+use Rattle.bye_pattern.specs.Mappings.{Name, Mapping, Binds}
+use Rattle.bye_pattern.specs.Patterns.{Pattern, vars, Meets}
+use Rattle.bye_pattern.specs.Conditions.{cond_vars}
+use Rattle.bye_pattern.specs.Conjuncts.{MeetsCond}
+use Rattle.bye_pattern.specs.Classes.{IsClassTriple, IsClassCond}
+use Rattle.bye_pattern.specs.Trees.{Tree, node, Forest, leaf, more}
+use Rattle.bye_pattern.specs.TrialOrder.{IsInTrialOrder}
+use Rattle.bye_pattern.specs.Domains.{Wanted, IsSeen, IsWithin, IsBelow, AreAlike, BindsEach, IsBefore}
+
+-- a tree of domain classes, each by the first of its variables
+mutual
+  pub data Domain : Type 0 where
+    domain : Name → Subdomains → Domain
+
+  pub data Subdomains : Type 0 where
+    none : Subdomains
+    also : Domain → Subdomains → Subdomains
+
+abbrev pub label : Domain → Name
+label (domain x ds) = x
+
+-- y is the variable of a node of the tree
+abbrev mutual
+  pub IsLabel : Domain → Name → Type 0
+  IsLabel (domain x ds) y = (x ≡ y) ⊎ IsLabelIn ds y
+
+  pub IsLabelIn : Subdomains → Name → Type 0
+  IsLabelIn none y = ⊥
+  IsLabelIn (also d ds) y = IsLabel d y ⊎ IsLabelIn ds y
+
+-- below a node all domains are smaller; of two beside one another neither is within the other, and the first has the earlier variable
+abbrev mutual
+  pub IsOrdered : Wanted → Domain → Type 0
+  IsOrdered w (domain x ds) = ((y : Name) → IsLabelIn ds y → IsBelow w.rows y x) × AreOrdered w ds
+
+  pub AreOrdered : Wanted → Subdomains → Type 0
+  AreOrdered w none = Unit {0}
+  AreOrdered w (also d ds) = IsBeside w d ds × IsOrdered w d × AreOrdered w ds
+
+  pub IsBeside : Wanted → Domain → Subdomains → Type 0
+  IsBeside w d none = Unit {0}
+  IsBeside w d (also e ds) =
+      IsBefore w.vars (label d) (label e) × ((x y : Name) → IsLabel d x → IsLabel e y → (IsWithin w.rows x y → ⊥) × (IsWithin w.rows y x → ⊥)) × IsBeside w d ds
+
+-- x is bound in some row, and the first of its class
+pub record IsFirstOfClass (w : Wanted) (x : Name) : Type 0 where
+  pub seen : IsSeen w.rows x
+  pub first : (y : Name) → IsBefore w.vars y x → AreAlike w.rows x y → ⊥
+
+-- each class has a node, and the ancestors of a node are the greater domains; every row binds the root's variables
+pub record IsDomainTree (w : Wanted) (d : Domain) : Type 0 where
+  pub labels : (x : Name) → IsLabel d x → IsFirstOfClass w x
+  pub covers : (v : Name) → IsSeen w.rows v → (x : Name) × IsLabel d x × AreAlike w.rows x v
+  pub ordered : IsOrdered w d
+  pub root : BindsEach w.rows (label d)
+
+-- a triple pattern of the class over Up(x), with any terms as constants, that each wanted row binding x meets
+pub record IsCommonAt (g : List Statement) (rows : List Mapping) (x : Name) (p : Pattern) : Type 0 where
+  pub in_class : IsClassTriple p
+  pub over : (v : Name) → In (vars p) v → IsWithin rows x v
+  pub holds : AllByRecursion (λ m. Binds m x → Meets g m p) rows
+
+-- a condition of the class over Up(x), with any term as constant, that each wanted row binding x meets
+pub record IsCommonCondAt (rows : List Mapping) (x : Name) (c : Cond) : Type 0 where
+  pub in_class : IsClassCond c
+  pub over : (v : Name) → In (cond_vars c) v → IsWithin rows x v
+  pub holds : AllByRecursion (λ m. Binds m x → MeetsCond m c) rows
+
+-- of the two variables of a sameTerm the first in the table stands first
+abbrev pub IsInForm : List Name → Cond → Type 0
+IsInForm header (conds.Bound v) = Unit {0}
+IsInForm header (conds.SameVar v w) = IsBefore header v w
+IsInForm header (conds.SameConst v c) = Unit {0}
+
+-- the order of trial of conditions: bound by its variable, then sameTerm of two variables by the first and then the second, then sameTerm of a constant by its variable
+abbrev pub IsTriedBefore : List Name → Cond → Cond → Type 0
+IsTriedBefore header (conds.Bound v) (conds.Bound w) = IsBefore header v w
+IsTriedBefore header (conds.Bound v) (conds.SameVar w x) = Unit {0}
+IsTriedBefore header (conds.Bound v) (conds.SameConst w c) = Unit {0}
+IsTriedBefore header (conds.SameVar v w) (conds.Bound x) = ⊥
+IsTriedBefore header (conds.SameVar v w) (conds.SameVar x y) = IsBefore header v x ⊎ ((v ≡ x) × IsBefore header w y)
+IsTriedBefore header (conds.SameVar v w) (conds.SameConst x c) = Unit {0}
+IsTriedBefore header (conds.SameConst v c) (conds.Bound w) = ⊥
+IsTriedBefore header (conds.SameConst v c) (conds.SameVar w x) = ⊥
+IsTriedBefore header (conds.SameConst v c) (conds.SameConst w d) = IsBefore header v w
+
+abbrev pub AreInTrialOrder : List Name → List Cond → Type 0
+AreInTrialOrder header [] = Unit {0}
+AreInTrialOrder header (c ∷ cs) = AllByRecursion (IsTriedBefore header c) cs × AreInTrialOrder header cs
+
+-- the node of x: all these conjuncts, each once, in the order of trial
+pub record IsStartNode (g : List Statement) (w : Wanted) (x : Name) (ps : List Pattern) (cs : List Cond) : Type 0 where
+  pub triples : (p : Pattern) → In ps p ↔ IsCommonAt g w.rows x p
+  pub once : EachOnce ps
+  pub sorted : IsInTrialOrder ps
+  pub conditions : (c : Cond) → In cs c ↔ (IsCommonCondAt w.rows x c × IsInForm w.vars c)
+  pub conditions_sorted : AreInTrialOrder w.vars cs
+
+abbrev mutual
+  pub IsStartTree : List Statement → Wanted → Domain → Tree → Type 0
+  IsStartTree g w (domain x ds) (node ps cs f) = IsStartNode g w x ps cs × IsStartForest g w ds f
+
+  pub IsStartForest : List Statement → Wanted → Subdomains → Forest → Type 0
+  IsStartForest g w none leaf = Unit {0}
+  IsStartForest g w none (more t f) = ⊥
+  IsStartForest g w (also d ds) leaf = ⊥
+  IsStartForest g w (also d ds) (more t f) = IsStartTree g w d t × IsStartForest g w ds f
