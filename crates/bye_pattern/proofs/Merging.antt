@@ -26,8 +26,8 @@ some_or_none (Some t) = inl refl
 pub not_bound : (o : Option Term) → o ≡ None → IsSome o → ⊥
 not_bound o e h = let k = subst (λ o. IsSome o) e h in cc
 
-pub same_value : {s t : Term} → ◌≡◌ {A = Option Term} (Some s) (Some t) → s ≡ t
-same_value e = cc
+pub some_same : {s t : Term} → ◌≡◌ {A = Option Term} (Some s) (Some t) → s ≡ t
+some_same e = cc
 
 pub nothing_bound : (m : Mapping) → ((v : Name) → Binds m v → ⊥) → m ≡ nothing
 nothing_bound m h = λ i v. unbound (m v) (h v) i
@@ -65,7 +65,7 @@ restrict_binds vs m v h =
 
 pub restrictions_agree : (xs ys : List Name) (m : Mapping) → Compatible (restrict xs m) (restrict ys m)
 restrictions_agree xs ys m v s t d e =
-    same_value (sym (restrict_some xs m v s d).1 ∙ (restrict_some ys m v t e).1)
+    some_same (sym (restrict_some xs m v s d).1 ∙ (restrict_some ys m v t e).1)
 
 -- a mapping is its restriction to variables among which it binds all that it binds
 pub restrict_within : (vs : List Name) (m : Mapping) → ((v : Name) → Binds m v → In vs v) → m ≡ restrict vs m

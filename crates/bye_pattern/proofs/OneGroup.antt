@@ -25,11 +25,11 @@ use Rattle.bye_pattern.proofs.Merging.{bound, in_or_not, restrict_whole}
 use Rattle.bye_pattern.proofs.Solutions.{row_meets, meets_row}
 
 -- the filter of a group with plain conditions alone
-conds_hold : (cs : List Cond) (m : Mapping) → AllHoldExpr (map cond_expr cs ++ []) m → AllHold cs m
+pub conds_hold : (cs : List Cond) (m : Mapping) → AllHoldExpr (map cond_expr cs ++ []) m → AllHold cs m
 conds_hold [] m h = tt
 conds_hold (c ∷ cs) m (h, all) = (h, conds_hold cs m all)
 
-hold_conds : (cs : List Cond) (m : Mapping) → AllHold cs m → AllHoldExpr (map cond_expr cs ++ []) m
+pub hold_conds : (cs : List Cond) (m : Mapping) → AllHold cs m → AllHoldExpr (map cond_expr cs ++ []) m
 hold_conds [] m h = tt
 hold_conds (c ∷ cs) m (h, all) = (h, hold_conds cs m all)
 

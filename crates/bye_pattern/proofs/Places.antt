@@ -11,24 +11,24 @@ use Rattle.bye_pattern.specs.Optional.{IsNode, IsNodeIn, IsNewAt, InOptional}
 use Rattle.bye_pattern.proofs.FourRules.{at_once}
 
 mutual
-  -- a variable that is new at a node of a tree is in no earlier node
-  new_unseen : (parent seen : List Name) (t : Tree) (p : List Name) (u : Tree) (v : Name) → IsTree parent seen t → IsNode parent t p u → IsNewAt p u v → In seen v → ⊥
-  new_unseen parent seen (node ps cs f) p u v designed (inl (a, b)) new s =
-      new.1 (subst (λ p. In p v) (sym a) (designed.0.shared v (subst (λ u. In (own_vars u) v) b new.0) s))
-  new_unseen parent seen (node ps cs f) p u v designed (inr h) new s = new_unseen_in (all_vars ps) (seen ++ all_vars ps) f p u v designed.1 h new (in_left seen (all_vars ps) v s)
+  -- a variable of a node that is in an earlier node is one of its parent's
+  pub fresh : (parent seen : List Name) (t : Tree) → IsTree parent seen t → (p : List Name) (u : Tree) (v : Name) → IsNode parent t p u → In (own_vars u) v → In seen v → In p v
+  fresh parent seen (node ps cs f) designed p u v (inl (a, b)) h s =
+      subst (λ p. In p v) (sym a) (designed.0.shared v (subst (λ u. In (own_vars u) v) b h) s)
+  fresh parent seen (node ps cs f) designed p u v (inr k) h s = fresh_in (all_vars ps) (seen ++ all_vars ps) f designed.1 p u v k h (in_left seen (all_vars ps) v s)
 
-  new_unseen_in : (parent seen : List Name) (f : Forest) (p : List Name) (u : Tree) (v : Name) → IsForest parent seen f → IsNodeIn parent f p u → IsNewAt p u v → In seen v → ⊥
-  new_unseen_in parent seen leaf p u v designed h new s = h
-  new_unseen_in parent seen (more t f) p u v designed (inl h) new s = new_unseen parent seen t p u v designed.0 h new s
-  new_unseen_in parent seen (more t f) p u v designed (inr h) new s = new_unseen_in parent (seen ++ tree_vars t) f p u v designed.1 h new (in_left seen (tree_vars t) v s)
+  pub fresh_in : (parent seen : List Name) (f : Forest) → IsForest parent seen f → (p : List Name) (u : Tree) (v : Name) → IsNodeIn parent f p u → In (own_vars u) v → In seen v → In p v
+  fresh_in parent seen leaf designed p u v k h s = absurd k
+  fresh_in parent seen (more t f) designed p u v (inl k) h s = fresh parent seen t designed.0 p u v k h s
+  fresh_in parent seen (more t f) designed p u v (inr k) h s = fresh_in parent (seen ++ tree_vars t) f designed.1 p u v k h (in_left seen (tree_vars t) v s)
 
 mutual
-  -- and one of the variables of the tree
-  node_vars : (parent : List Name) (t : Tree) (p : List Name) (u : Tree) (v : Name) → IsNode parent t p u → In (own_vars u) v → In (tree_vars t) v
+  -- and it is one of the variables of the tree
+  pub node_vars : (parent : List Name) (t : Tree) (p : List Name) (u : Tree) (v : Name) → IsNode parent t p u → In (own_vars u) v → In (tree_vars t) v
   node_vars parent (node ps cs f) p u v (inl (a, b)) h = in_left (all_vars ps) (forest_vars f) v (subst (λ u. In (own_vars u) v) b h)
   node_vars parent (node ps cs f) p u v (inr k) h = in_right (all_vars ps) (forest_vars f) v (node_vars_in (all_vars ps) f p u v k h)
 
-  node_vars_in : (parent : List Name) (f : Forest) (p : List Name) (u : Tree) (v : Name) → IsNodeIn parent f p u → In (own_vars u) v → In (forest_vars f) v
+  pub node_vars_in : (parent : List Name) (f : Forest) (p : List Name) (u : Tree) (v : Name) → IsNodeIn parent f p u → In (own_vars u) v → In (forest_vars f) v
   node_vars_in parent leaf p u v k h = absurd k
   node_vars_in parent (more t f) p u v (inl k) h = in_left (tree_vars t) (forest_vars f) v (node_vars parent t p u v k h)
   node_vars_in parent (more t f) p u v (inr k) h = in_right (tree_vars t) (forest_vars f) v (node_vars_in parent f p u v k h)
@@ -38,9 +38,9 @@ mutual
       → IsNode parent t p u → IsNode parent t r w → IsNewAt p u v → IsNewAt r w v → (p ≡ r) × (u ≡ w)
   one_node parent seen (node ps cs f) p u r w v designed (inl (a, b)) (inl (c, d)) new also = (a ∙ sym c, b ∙ sym d)
   one_node parent seen (node ps cs f) p u r w v designed (inl (a, b)) (inr k) new also =
-      absurd (new_unseen_in (all_vars ps) (seen ++ all_vars ps) f r w v designed.1 k also (in_right seen (all_vars ps) v (subst (λ u. In (own_vars u) v) b new.0)))
+      absurd (also.1 (fresh_in (all_vars ps) (seen ++ all_vars ps) f designed.1 r w v k also.0 (in_right seen (all_vars ps) v (subst (λ u. In (own_vars u) v) b new.0))))
   one_node parent seen (node ps cs f) p u r w v designed (inr h) (inl (c, d)) new also =
-      absurd (new_unseen_in (all_vars ps) (seen ++ all_vars ps) f p u v designed.1 h new (in_right seen (all_vars ps) v (subst (λ u. In (own_vars u) v) d also.0)))
+      absurd (new.1 (fresh_in (all_vars ps) (seen ++ all_vars ps) f designed.1 p u v h new.0 (in_right seen (all_vars ps) v (subst (λ u. In (own_vars u) v) d also.0))))
   one_node parent seen (node ps cs f) p u r w v designed (inr h) (inr k) new also = one_node_in (all_vars ps) (seen ++ all_vars ps) f p u r w v designed.1 h k new also
 
   one_node_in : (parent seen : List Name) (f : Forest) (p : List Name) (u : Tree) (r : List Name) (w : Tree) (v : Name) → IsForest parent seen f
@@ -48,9 +48,9 @@ mutual
   one_node_in parent seen leaf p u r w v designed h k new also = absurd h
   one_node_in parent seen (more t f) p u r w v designed (inl h) (inl k) new also = one_node parent seen t p u r w v designed.0 h k new also
   one_node_in parent seen (more t f) p u r w v designed (inl h) (inr k) new also =
-      absurd (new_unseen_in parent (seen ++ tree_vars t) f r w v designed.1 k also (in_right seen (tree_vars t) v (node_vars parent t p u v h new.0)))
+      absurd (also.1 (fresh_in parent (seen ++ tree_vars t) f designed.1 r w v k also.0 (in_right seen (tree_vars t) v (node_vars parent t p u v h new.0))))
   one_node_in parent seen (more t f) p u r w v designed (inr h) (inl k) new also =
-      absurd (new_unseen_in parent (seen ++ tree_vars t) f p u v designed.1 h new (in_right seen (tree_vars t) v (node_vars parent t r w v k also.0)))
+      absurd (new.1 (fresh_in parent (seen ++ tree_vars t) f designed.1 p u v h new.0 (in_right seen (tree_vars t) v (node_vars parent t r w v k also.0))))
   one_node_in parent seen (more t f) p u r w v designed (inr h) (inr k) new also =
       one_node_in parent (seen ++ tree_vars t) f p u r w v designed.1 h k new also
 

@@ -14,7 +14,7 @@ use Rattle.bye_pattern.specs.Algebra.{IsBgpRow, IsRow, Extends, IsAnswer}
 use Rattle.bye_pattern.specs.Trees.{body, alg}
 use Rattle.bye_pattern.specs.Designed.{Keeps}
 use Rattle.bye_pattern.specs.Worked.{x, y, z, w, m, a, b, pattern, kind, mail, text, people, is_person, has_mail, mails, one_mail, OptionalAnswers, ErrorsDropRows, DesignedTrees}
-use Rattle.bye_pattern.proofs.Merging.{bound, binds, same_value as same_bound, restrict_in, restrict_within, merge_right}
+use Rattle.bye_pattern.proofs.Merging.{bound, binds, some_same as same_bound, restrict_in, restrict_within, merge_right}
 use Rattle.bye_pattern.proofs.Solutions.{row_meets, meets_row}
 use Rattle.bye_pattern.proofs.OneGroup.{root_rules}
 use Rattle.bye_pattern.proofs.WorkedTerms.{differ, values_differ, row_exactly, longer_agrees, longer_merges}

@@ -141,7 +141,6 @@ start : IsStartNode known examples x (was_born ∷ knows_bob ∷ []) (conds.Boun
 unfolding constant_of Rattle.bye_pattern.specs.Printed.root_line lib.Utf8.encode
 start = record {
   triples = patterns;
-  once = ((λ h. ⊎_elim (λ e. values_differ knows born refl (ap (λ (p : Pattern). constant_of p.p) e)) (λ k. k) h), ((λ h. h), tt));
   sorted = ((refl, tt), (tt, tt));
   conditions = conditions;
   conditions_sorted = ((tt, tt), (tt, tt));

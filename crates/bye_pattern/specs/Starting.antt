@@ -2,7 +2,7 @@
 use Rattle.std.specs.Prelude.{◌≡◌, List, [], ◌∷◌, ◌⊎◌, ◌↔◌}
 use Rattle.std.specs.List.{AllByRecursion}
 use Rattle.bye_terms.specs.Terms.{Statement}
-use Rattle.bye_terms.specs.Members.{In, EachOnce}
+use Rattle.bye_terms.specs.Members.{In}
 use Rattle.bye_pattern.specs.declared.cond.Cond.{Cond}
 use Rattle.bye_pattern.specs.declared.cond.Cond.TheVariants as conds
 use Rattle.bye_pattern.specs.Mappings.{Name, Mapping, Binds}
@@ -11,7 +11,7 @@ use Rattle.bye_pattern.specs.Conditions.{cond_vars}
 use Rattle.bye_pattern.specs.Conjuncts.{MeetsCond}
 use Rattle.bye_pattern.specs.Classes.{IsClassTriple, IsClassCond}
 use Rattle.bye_pattern.specs.Trees.{Tree, node, Forest, leaf, more}
-use Rattle.bye_pattern.specs.TrialOrder.{IsInTrialOrder}
+use Rattle.bye_pattern.specs.TrialOrder.{IsInStrictOrder}
 use Rattle.bye_pattern.specs.Domains.{Wanted, IsSeen, IsWithin, IsBelow, AreAlike, BindsEach, IsBefore}
 
 -- a tree of domain classes, each by the first of its variables
@@ -95,11 +95,10 @@ abbrev pub AreInTrialOrder : List Name → List Cond → Type 0
 AreInTrialOrder header [] = Unit {0}
 AreInTrialOrder header (c ∷ cs) = AllByRecursion (IsTriedBefore header c) cs × AreInTrialOrder header cs
 
--- the node of x: all these conjuncts, each once, in the order of trial
+-- the node of x: all these conjuncts, each once, in the order of trial, which is strict
 pub record IsStartNode (g : List Statement) (w : Wanted) (x : Name) (ps : List Pattern) (cs : List Cond) : Type 0 where
   pub triples : (p : Pattern) → In ps p ↔ IsCommonAt g w.rows x p
-  pub once : EachOnce ps
-  pub sorted : IsInTrialOrder ps
+  pub sorted : IsInStrictOrder ps
   pub conditions : (c : Cond) → In cs c ↔ (IsCommonCondAt w.rows x c × IsInForm w.vars c)
   pub conditions_sorted : AreInTrialOrder w.vars cs
 

@@ -1,5 +1,5 @@
 -- The order in which triple patterns are tried, and written: by how many distinct variables they have, and then by the bytes of their lines.
-use Rattle.std.specs.Prelude.{◌≡◌, ℕ, ◌+◌, false, cond, List, [], ◌∷◌}
+use Rattle.std.specs.Prelude.{◌≡◌, ℕ, ◌+◌, true, false, cond, List, [], ◌∷◌}
 use Rattle.std.specs.Str.{encode_utf8_all}
 use Rattle.std.specs.List.{AllByRecursion}
 use Rattle.std.specs.Cmp.Lexicographic.{slice_cmp}
@@ -25,3 +25,8 @@ trial_cmp p q = ordering_then (nat_cmp (distinct_count (vars p)) (distinct_count
 abbrev pub IsInTrialOrder : List Pattern → Type 0
 IsInTrialOrder [] = Unit {0}
 IsInTrialOrder (p ∷ ps) = AllByRecursion (λ q. is_lt (trial_cmp q p) ≡ false) ps × IsInTrialOrder ps
+
+-- each stands before all that come later; so each stands once, and no other list of the same patterns does so
+abbrev pub IsInStrictOrder : List Pattern → Type 0
+IsInStrictOrder [] = Unit {0}
+IsInStrictOrder (p ∷ ps) = AllByRecursion (λ q. is_lt (trial_cmp p q) ≡ true) ps × IsInStrictOrder ps

@@ -1,0 +1,183 @@
+-- What is kept is one query, and of a start that is right it is right and minimal.
+use Rattle.std.proofs.Common.{◌≡◌, refl, true, List, [], ◌∷◌, ◌⊎◌, inl, inr, ⊎_elim, sym, ◌∙◌, ap, subst, ◌↔◌}
+use Rattle.std.specs.List.{AllByRecursion}
+use Rattle.std.specs.Ordering.{is_lt}
+use Rattle.bye_terms.specs.Members.{EachOnce, In}
+use Rattle.bye_terms.specs.Terms.{Statement}
+use Rattle.bye_terms.proofs.Members.{all_in}
+use Rattle.bye_terms.proofs.Tests.{not_both}
+use Rattle.bye_pattern.specs.declared.class.Class.{Class}
+use Rattle.bye_pattern.specs.declared.class.Class.TheVariants.{And, Optional}
+use Rattle.bye_pattern.specs.declared.cond.Cond.{Cond}
+use Rattle.bye_pattern.specs.Conjuncts.{Drops}
+use Rattle.bye_pattern.specs.Domains.{IsBefore, Wanted}
+use Rattle.bye_pattern.specs.Keeping.{IsKept, IsMinimal, IsRight, IsStart, IsThinnedTree}
+use Rattle.bye_pattern.specs.Mappings.{Mapping, Name}
+use Rattle.bye_pattern.specs.Patterns.{Pattern}
+use Rattle.bye_pattern.specs.Starting.{AreInTrialOrder, Domain, IsStartForest, IsStartNode, IsStartTree, IsTriedBefore, Subdomains, also, domain, none}
+use Rattle.bye_pattern.specs.Trees.{Forest, Select, Tree, leaf, more, node, plain_select}
+use Rattle.bye_pattern.specs.TrialOrder.{IsInStrictOrder, trial_cmp}
+use Rattle.bye_pattern.proofs.Orders.{trial_weak}
+use Rattle.bye_laws.specs.Completeness.{Allows, AreExamples}
+use Rattle.bye_laws.proofs.ClassStarts.{class_is_over}
+use Rattle.bye_laws.proofs.Conjunctions.{conjunctions_lift}
+use Rattle.bye_laws.proofs.Examples.{one_seen_list}
+use Rattle.bye_laws.proofs.Once.{once_tree, some_tree}
+use Rattle.bye_laws.proofs.OneDomainTree.{not_both_before, one_domain_tree}
+use Rattle.bye_laws.proofs.OptionalKept.{optional_kept}
+use Rattle.bye_laws.proofs.OptionalStarts.{optional_parts}
+use Rattle.bye_laws.proofs.Passes.{thin_tree}
+use Rattle.bye_pattern.specs.declared.cond.Cond.TheVariants as conds
+
+-- a list in which each element stands before all later ones
+abbrev pub IsSorted : {X : Type 0} → (X → X → Type 0) → List X → Type 0
+IsSorted R [] = Unit {0}
+IsSorted {X} R (x ∷ xs) = AllByRecursion (R x) xs × IsSorted R xs
+
+-- is told by its elements
+pub sorted_same : {X : Type 0} (R : X → X → Type 0) → ((x y : X) → R x y → R y x → ⊥) → (xs ys : List X) → IsSorted R xs → IsSorted R ys → ((x : X) → In xs x ↔ In ys x) → xs ≡ ys
+sorted_same R apart [] [] a b same = refl
+sorted_same R apart [] (y ∷ ys) a b same = absurd ((same y).1 (inl refl))
+sorted_same R apart (x ∷ xs) [] a b same = absurd ((same x).0 (inl refl))
+sorted_same {X} R apart (x ∷ xs) (y ∷ ys) a b same =
+    let e : y ≡ x = heads ((same x).0 (inl refl)) ((same y).1 (inl refl)) in
+    let rest : xs ≡ ys = sorted_same R apart xs ys a.1 b.1 (tails e) in
+    λ i. sym e i ∷ rest i
+  where
+    heads : (y ≡ x) ⊎ In ys x → (x ≡ y) ⊎ In xs y → y ≡ x
+    heads (inl e) k = e
+    heads (inr h) (inl e) = sym e
+    heads (inr h) (inr k) = absurd (apart x y (all_in (R x) xs y a.0 k) (all_in (R y) ys x b.0 h))
+
+    later : (z w : X) (zs : List X) → AllByRecursion (R w) zs → In zs z → w ≡ z → ⊥
+    later z w zs all h e = let r = all_in (R w) zs z all h in apart w z r (subst (λ v. R z v) (sym e) (subst (λ v. R v z) e r))
+
+    tails : y ≡ x → (z : X) → In xs z ↔ In ys z
+    tails e z = (
+      (λ h. ⊎_elim (λ f. absurd (later z x xs a.0 h (sym e ∙ f))) (λ k. k) ((same z).0 (inr h))),
+      (λ h. ⊎_elim (λ f. absurd (later z y ys b.0 h (e ∙ f))) (λ k. k) ((same z).1 (inr h))),
+    )
+
+-- the order of trial of patterns, and that of conditions
+tried_strictly : (ps : List Pattern) → IsInStrictOrder ps → IsSorted (λ p q. is_lt (trial_cmp p q) ≡ true) ps
+tried_strictly [] h = tt
+tried_strictly (p ∷ ps) h = (h.0, tried_strictly ps h.1)
+
+-- of two patterns not both stand before the other
+patterns_apart : (p q : Pattern) → is_lt (trial_cmp p q) ≡ true → is_lt (trial_cmp q p) ≡ true → ⊥
+patterns_apart p q a b = not_both _ b (trial_weak.one_way p q a)
+
+-- the same of conditions
+tried_in_order : (header : List Name) (cs : List Cond) → AreInTrialOrder header cs → IsSorted (IsTriedBefore header) cs
+tried_in_order header [] h = tt
+tried_in_order header (c ∷ cs) h = (h.0, tried_in_order header cs h.1)
+
+-- of two conditions not both stand before the other
+conditions_apart : (header : List Name) → EachOnce header → (c d : Cond) → IsTriedBefore header c d → IsTriedBefore header d c → ⊥
+conditions_apart header once (conds.Bound v) (conds.Bound w) a b = not_both_before header v w once a b
+conditions_apart header once (conds.Bound v) (conds.SameVar w x) a b = b
+conditions_apart header once (conds.Bound v) (conds.SameConst w t) a b = b
+conditions_apart header once (conds.SameVar v w) (conds.Bound x) a b = a
+conditions_apart header once (conds.SameVar v w) (conds.SameVar x y) a b =
+    ⊎_elim
+    (λ i. ⊎_elim (λ j. not_both_before header v x once i j) (λ j. not_self v (subst (IsBefore header v) j.0 i)) b)
+    (λ i. ⊎_elim (λ j. not_self x (subst (IsBefore header x) i.0 j)) (λ j. not_both_before header w y once i.1 j.1) b)
+    a
+  where
+    not_self : (u : Name) → IsBefore header u u → ⊥
+    not_self u h = not_both_before header u u once h h
+conditions_apart header once (conds.SameVar v w) (conds.SameConst x t) a b = b
+conditions_apart header once (conds.SameConst v t) (conds.Bound w) a b = a
+conditions_apart header once (conds.SameConst v t) (conds.SameVar w x) a b = a
+conditions_apart header once (conds.SameConst v t) (conds.SameConst w u) a b = not_both_before header v w once a b
+
+-- the lists of a start node are told by their elements
+one_node : (g : List Statement) (w : Wanted) (x : Name) (ps qs : List Pattern) (cs ds : List Cond) → EachOnce w.vars → IsStartNode g w x ps cs → IsStartNode g w x qs ds → (ps ≡ qs) × (cs ≡ ds)
+one_node g w x ps qs cs ds once a b = (
+  sorted_same (λ p q. is_lt (trial_cmp p q) ≡ true) patterns_apart ps qs (tried_strictly ps a.sorted) (tried_strictly qs b.sorted)
+      (λ p. ((λ h. (b.triples p).1 ((a.triples p).0 h)), (λ h. (a.triples p).1 ((b.triples p).0 h)))),
+  sorted_same (IsTriedBefore w.vars) (conditions_apart w.vars once) cs ds (tried_in_order w.vars cs a.conditions_sorted) (tried_in_order w.vars ds b.conditions_sorted)
+      (λ c. ((λ h. (b.conditions c).1 ((a.conditions c).0 h)), (λ h. (a.conditions c).1 ((b.conditions c).0 h)))),
+)
+
+-- over one tree of domains there is one start tree
+mutual
+  one_start_tree : (g : List Statement) (w : Wanted) (d : Domain) (t u : Tree) → EachOnce w.vars → IsStartTree g w d t → IsStartTree g w d u → t ≡ u
+  one_start_tree g w (domain x ds) (node ps cs f) (node qs es e) once a b =
+      let lists = one_node g w x ps qs cs es once a.0 b.0 in
+      let below = one_start_forest g w ds f e once a.1 b.1 in
+      λ i. node (lists.0 i) (lists.1 i) (below i)
+
+  one_start_forest : (g : List Statement) (w : Wanted) (ds : Subdomains) (f e : Forest) → EachOnce w.vars → IsStartForest g w ds f → IsStartForest g w ds e → f ≡ e
+  one_start_forest g w none leaf leaf once a b = refl
+  one_start_forest g w none leaf (more u e) once a b = absurd b
+  one_start_forest g w none (more t f) e once a b = absurd a
+  one_start_forest g w (also d ds) leaf e once a b = absurd a
+  one_start_forest g w (also d ds) (more t f) leaf once a b = absurd b
+  one_start_forest g w (also d ds) (more t f) (more u e) once a b =
+      let first = one_start_tree g w d t u once a.0 b.0 in
+      let rest = one_start_forest g w ds f e once a.1 b.1 in
+      λ i. more (first i) (rest i)
+
+-- there is one start
+pub one_start : (class : Class) (g : List Statement) (w : Wanted) (s r : Select) → AreExamples w → IsStart class g w s → IsStart class g w r → s ≡ r
+one_start class g w s r examples a b =
+    let same = one_domain_tree w examples a.domains b.domains a.over b.over in
+    let tree = one_start_tree g w b.domains a.tree b.tree examples.once (subst (λ d. IsStartTree g w d a.tree) same a.conjuncts) b.conjuncts in
+    let vars = one_seen_list w.rows w.vars a.vars b.vars a.selected b.selected in
+    a.query ∙ (λ i. plain_select (vars i) (tree i)) ∙ sym b.query
+
+-- what is kept is one query
+pub kept_is_one : (class : Class) (g : List Statement) (w : Wanted) (unwanted : List Mapping) (q r : Select) → AreExamples w
+    → IsKept class g w unwanted q → IsKept class g w unwanted r → q ≡ r
+kept_is_one class g w unwanted q r examples a b =
+    let same = one_start class g w a.start b.start examples a.begun b.begun in
+    let P : Select → Tree → Type 0 = λ s t. IsThinnedTree (λ u. IsRight class g w.rows unwanted (plain_select s.vars u)) s.tree t in
+    let tree = once_tree (λ u. IsRight class g w.rows unwanted (plain_select b.start.vars u)) b.start.tree a.tree b.tree (subst (λ s. P s a.tree) same a.thinned) b.thinned in
+    a.query ∙ (λ i. plain_select (same i).vars (tree i)) ∙ sym b.query
+
+-- and there is one where it is decided what is right
+pub something_is_kept : (class : Class) (g : List Statement) (w : Wanted) (unwanted : List Mapping) (start : Select) → IsStart class g w start
+    → ((q : Select) → IsRight class g w.rows unwanted q ⊎ (IsRight class g w.rows unwanted q → ⊥)) → (q : Select) × IsKept class g w unwanted q
+something_is_kept class g w unwanted start begun decide =
+    let pass = some_tree (λ t. IsRight class g w.rows unwanted (plain_select start.vars t)) (λ t. decide (plain_select start.vars t)) start.tree in
+    (plain_select start.vars pass.0, record { start = start; tree = pass.0; begun = begun; thinned = pass.1; query = refl })
+
+-- what one pass from a right start leaves, for both classes
+pass_done : (class : Class) (g : List Statement) (w : Wanted) (unwanted : List Mapping) (start : Select) (t : Tree) → AreExamples w → Allows class unwanted → IsStart class g w start
+    → IsRight class g w.rows unwanted (plain_select start.vars start.tree) → IsThinnedTree (λ u. IsRight class g w.rows unwanted (plain_select start.vars u)) start.tree t
+    → IsRight class g w.rows unwanted (plain_select start.vars t) × ((u : Tree) → Drops t u → IsRight class g w.rows unwanted (plain_select start.vars u) → ⊥)
+pass_done And g w unwanted start t examples allowed begun right pass =
+    let done = thin_tree (λ u. IsRight And g w.rows unwanted (plain_select start.vars u)) start.tree t (conjunctions_lift g w.rows unwanted start.vars) right pass in
+    (done.right, done.minimal)
+pass_done Optional g w unwanted start t examples allowed begun right pass =
+    let p = optional_parts g w start examples begun in
+    let vars : start.vars ≡ p.vs = ap (λ (s : Select). s.vars) p.is in
+    let tree : start.tree ≡ p.tree = ap (λ (s : Select). s.tree) p.is in
+    let R : List Mapping → List Name → Tree → Type 0 = λ bad vs u. IsRight Optional g w.rows bad (plain_select vs u) in
+    let right_here : R [] p.vs p.tree = subst (λ vs. R [] vs p.tree) vars (subst (R [] start.vars) tree (subst (λ bad. R bad start.vars start.tree) allowed right)) in
+    let pass_here : IsThinnedTree (R [] p.vs) p.tree t = subst (λ vs. IsThinnedTree (R [] vs) p.tree t) vars (subst (λ s. IsThinnedTree (R [] start.vars) s t) tree (subst (λ bad. IsThinnedTree (R bad start.vars) start.tree t) allowed pass)) in
+    let done = optional_kept g w.rows p.vs p.domains p.tree t p.selects p.over (class_is_over g w.vars w.rows p.vs p.domains p.tree p.over p.all right_here.in_class) right_here pass_here in
+    let back : (u : Tree) → R [] p.vs u ≡ R unwanted start.vars u = λ u. (λ i. R (sym allowed i) (sym vars i) u) in
+    (coerce (back t) done.0, λ u drop h. done.1 u drop (coerce (sym (back u)) h))
+  where
+    coerce : {A B : Type 0} → A ≡ B → A → B
+    coerce e a = subst (λ X. X) e a
+
+-- it is right and minimal where the start is right
+pub kept_is_minimal : (class : Class) (g : List Statement) (w : Wanted) (unwanted : List Mapping) (start q : Select) → AreExamples w → Allows class unwanted
+    → IsStart class g w start → IsRight class g w.rows unwanted start → IsKept class g w unwanted q → IsRight class g w.rows unwanted q × IsMinimal class g w.rows unwanted q
+kept_is_minimal class g w unwanted start q examples allowed begun right kept =
+    let same = one_start class g w start kept.start examples begun kept.begun in
+    let s = kept.start in
+    let plain : kept.start ≡ plain_select kept.start.vars kept.start.tree = shape kept.start kept.begun.vars kept.begun.tree kept.begun.query in
+    let done = pass_done class g w unwanted kept.start kept.tree examples allowed kept.begun (subst (IsRight class g w.rows unwanted) (same ∙ plain) right) kept.thinned in (
+      subst (IsRight class g w.rows unwanted) (sym kept.query) done.0,
+      λ r (t, drops, e) good.
+          let tree : q.tree ≡ kept.tree = ap (λ (s : Select). s.tree) kept.query in
+          done.1 t (subst (λ u. Drops u t) tree drops)
+          (subst (IsRight class g w.rows unwanted) (e ∙ (λ i. record { distinct = (kept.query i).distinct; vars = (kept.query i).vars; tree = t; outer = (kept.query i).outer })) good),
+    )
+  where
+    shape : (s : Select) (vs : List Name) (t : Tree) → s ≡ plain_select vs t → s ≡ plain_select s.vars s.tree
+    shape s vs t e = e ∙ (λ i. plain_select (sym e i).vars (sym e i).tree)

@@ -1,0 +1,69 @@
+-- Trees of domains and of all common conjuncts, without the orders in which they stand.
+use Rattle.std.proofs.Common.{List}
+use Rattle.bye_terms.specs.Terms.{Statement}
+use Rattle.bye_pattern.specs.Domains.{AreAlike, BindsEach, IsBelow, IsSeen, IsWithin, Wanted}
+use Rattle.bye_pattern.specs.Mappings.{Mapping, Name}
+use Rattle.bye_pattern.specs.Starting.{AreOrdered, Domain, IsBeside, IsDomainTree, IsLabel, IsLabelIn, IsOrdered, IsStartForest, IsStartTree, Subdomains, also, domain, label, none}
+use Rattle.bye_pattern.specs.Trees.{Forest, Tree, leaf, more, node}
+use Rattle.bye_laws.proofs.AllConjuncts.{AreAllAt}
+use Rattle.bye_laws.proofs.DomainLabels.{beside_apart}
+
+-- below a node all domains are smaller, and beside one another they are not comparable
+abbrev mutual
+  pub AreNested : List Mapping → Domain → Type 0
+  AreNested rows (domain x ds) = ((y : Name) → IsLabelIn ds y → IsBelow rows y x) × AreNestedIn rows ds
+
+  pub AreNestedIn : List Mapping → Subdomains → Type 0
+  AreNestedIn rows none = Unit {0}
+  AreNestedIn rows (also d ds) = ((x y : Name) → IsLabel d x → IsLabelIn ds y → (IsWithin rows x y → ⊥) × (IsWithin rows y x → ⊥)) × AreNested rows d × AreNestedIn rows ds
+
+-- a tree with a variable of each class; the order of nodes beside one another plays no part
+pub record AreDomains (rows : List Mapping) (d : Domain) : Type 0 where
+  pub seen : (x : Name) → IsLabel d x → IsSeen rows x
+  pub covers : (v : Name) → IsSeen rows v → (x : Name) × IsLabel d x × AreAlike rows x v
+  pub ordered : AreNested rows d
+  pub root : BindsEach rows (label d)
+
+-- at the node of each domain all common conjuncts, in any order
+abbrev mutual
+  pub AllCommon : List Statement → List Name → List Mapping → Domain → Tree → Type 0
+  AllCommon g header rows (domain x ds) (node ps cs f) = AreAllAt g rows header x ps cs × AllCommonIn g header rows ds f
+
+  pub AllCommonIn : List Statement → List Name → List Mapping → Subdomains → Forest → Type 0
+  AllCommonIn g header rows none leaf = Unit {0}
+  AllCommonIn g header rows none (more t f) = ⊥
+  AllCommonIn g header rows (also d ds) leaf = ⊥
+  AllCommonIn g header rows (also d ds) (more t f) = AllCommon g header rows d t × AllCommonIn g header rows ds f
+
+-- the order of nodes beside one another forgotten
+beside_apart_all : (w : Wanted) (d : Domain) (ds : Subdomains) → IsBeside w d ds → (x y : Name) → IsLabel d x → IsLabelIn ds y → (IsWithin w.rows x y → ⊥) × (IsWithin w.rows y x → ⊥)
+beside_apart_all w d ds beside x y h k = beside_apart w d ds x y beside h k
+
+-- ordered trees are nested
+mutual
+  ordered_nested : (w : Wanted) (d : Domain) → IsOrdered w d → AreNested w.rows d
+  ordered_nested w (domain x ds) order = (order.0, ordered_nested_in w ds order.1)
+
+  ordered_nested_in : (w : Wanted) (ds : Subdomains) → AreOrdered w ds → AreNestedIn w.rows ds
+  ordered_nested_in w none order = tt
+  ordered_nested_in w (also d ds) order = (beside_apart_all w d ds order.0, ordered_nested w d order.1, ordered_nested_in w ds order.2)
+
+-- a tree of domains, its order forgotten
+pub domains_of : (w : Wanted) (d : Domain) → IsDomainTree w d → AreDomains w.rows d
+domains_of w d tree = record {
+  seen = λ x h. (tree.labels x h).seen;
+  covers = tree.covers;
+  ordered = ordered_nested w d tree.ordered;
+  root = tree.root;
+}
+
+-- and the order of conjuncts
+mutual
+  pub common_of : (g : List Statement) (w : Wanted) (d : Domain) (t : Tree) → IsStartTree g w d t → AllCommon g w.vars w.rows d t
+  common_of g w (domain x ds) (node ps cs f) (here, below) = ((here.triples, here.conditions), common_of_in g w ds f below)
+
+  common_of_in : (g : List Statement) (w : Wanted) (ds : Subdomains) (f : Forest) → IsStartForest g w ds f → AllCommonIn g w.vars w.rows ds f
+  common_of_in g w none leaf below = tt
+  common_of_in g w none (more t f) below = below
+  common_of_in g w (also d ds) leaf below = below
+  common_of_in g w (also d ds) (more t f) below = (common_of g w d t below.0, common_of_in g w ds f below.1)

@@ -1,0 +1,5 @@
+use Rattle.bye_laws.proofs.DomainTrees.{domain_tree}
+use Rattle.bye_laws.proofs.domain_trees_by_claims.Goals as goal
+
+pub returns : goal.returns
+returns c = domain_tree

@@ -1,0 +1,5 @@
+pub mod Reaching
+pub mod Nodes
+pub mod Completeness
+pub mod Passing
+pub mod LocalPass
