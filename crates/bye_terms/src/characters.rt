@@ -3,6 +3,7 @@
 ghost use Rattle.std.specs.Prelude.{◌≡◌};
 ghost use Rattle.bye_terms.specs.Characters as spec;
 
+/// An ASCII letter.
 pub fn is_letter(c: char) -> bool
     ensures { result ≡ spec.is_letter c }
 {
@@ -15,18 +16,21 @@ fn is_digit(c: char) -> bool
     matches!(c, '0'..='9')
 }
 
+/// An ASCII letter or digit.
 pub fn is_letter_or_digit(c: char) -> bool
     ensures { result ≡ spec.is_letter_or_digit c }
 {
     is_letter(c) || is_digit(c)
 }
 
+/// A character of a scheme after its first letter (RFC 3986, section 3.1).
 pub fn is_scheme_char(c: char) -> bool
     ensures { result ≡ spec.is_scheme_char c }
 {
     is_letter(c) || is_digit(c) || c == '+' || c == '.' || c == '-'
 }
 
+/// A character that stands raw in an IRI.
 pub fn is_iri_char(c: char) -> bool
     ensures { result ≡ spec.is_iri_char c }
 {
@@ -73,24 +77,28 @@ fn is_name_mark(c: char) -> bool
     matches!(c, '\u{B7}' | '\u{300}'..='\u{36F}' | '\u{203F}'..='\u{2040}')
 }
 
+/// The first character of a name.
 pub fn is_name_start(c: char) -> bool
     ensures { result ≡ spec.is_name_start c }
 {
     is_name_base(c) || c == '_' || is_digit(c)
 }
 
+/// A later character of a name.
 pub fn is_name_part(c: char) -> bool
     ensures { result ≡ spec.is_name_part c }
 {
     is_name_start(c) || is_name_mark(c)
 }
 
+/// The first character of a label.
 pub fn is_label_start(c: char) -> bool
     ensures { result ≡ spec.is_label_start c }
 {
     is_name_start(c) || c == ':'
 }
 
+/// A later character of a label that may also end it.
 pub fn is_label_part(c: char) -> bool
     ensures { result ≡ spec.is_label_part c }
 {

@@ -1,6 +1,6 @@
-ghost use Rattle.std.specs.Prelude.{◌≡◌, ◌∷◌, [], List, ℕ, MatchOption, Some, None, cond, false, IfNone, IsTrue, ◌↔◌};
+ghost use Rattle.std.specs.Prelude.{◌≡◌, ◌∷◌, [], List, ℕ, MatchOption, Some, None, cond, false, IfNone, IsTrue, ◌↔◌, length};
 ghost use Rattle.std.specs.Option.{option_map};
-ghost use Rattle.std.specs.Str.{chars};
+ghost use Rattle.std.specs.Str.{chars, encode_utf8_all};
 ghost use Rattle.bye_terms.specs.Reading.{after_at, until_at};
 
 use std::marker::Model;
@@ -48,6 +48,15 @@ impl<'a> Cursor<'a> {
         // Its clause says that the bytes are UTF-8.
         let _bytes = self.rest.as_bytes();
         self.rest.is_empty()
+    }
+
+    /// How many bytes are left.
+    pub fn len(&self) -> usize
+        ensures { result ≡ length (encode_utf8_all self.now) }
+    {
+        // Its clause says that the bytes are UTF-8.
+        let _bytes = self.rest.as_bytes();
+        self.rest.len()
     }
 
     /// Whether the next character is this one, which is taken then.

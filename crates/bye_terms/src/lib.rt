@@ -1,7 +1,7 @@
 //! Terms, triples and variables of RDF, and the byte order of their spellings.
 #![tactic(auto)]
 
-mod characters;
+pub mod characters;
 mod cursor;
 mod memory;
 mod parts;

@@ -1,0 +1,11 @@
+pub mod Branches
+pub mod Scans
+pub mod Numbers
+pub mod Places
+pub mod Answering
+pub mod IriMeaning
+pub mod IriExact
+pub mod IriReads
+pub mod MarkExact
+pub mod Fronts
+pub mod MarkReads

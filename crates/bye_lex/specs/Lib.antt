@@ -1,0 +1,10 @@
+pub mod Languages
+pub mod Escapes
+pub mod Iris
+pub mod Marks
+pub mod Answers
+pub mod Fronts
+pub mod Scanning
+pub mod IriSteps
+pub mod MarkSteps
+pub mod Spelled
