@@ -1,5 +1,7 @@
 -- Tests, their branches, and lists by their heads.
 use Rattle.std.proofs.Common.{◌≡◌, refl, ℕ, Bool, true, false, cond, ◌==◌, ◌&&◌, List, ◌∷◌, [], ◌++◌, Option, Some, None, ◌⊎◌, inl, inr, sym, ◌∙◌, ap, subst, append_assoc, arith}
+use Rattle.std.specs.Str.{all_scalars}
+use Rattle.bye_terms.proofs.Tests.{both_parts}
 
 pub when : {A : Type 0} (b : Bool) (x y : A) → b ≡ true → cond b x y ≡ x
 when b x y e = ap (λ b. cond b x y) e
@@ -50,3 +52,12 @@ and_false false b e = cc
 pub pick_of : {P S : Type 0} (b : Bool) (x n : S) (y : Option S) → cond b (Some x) y ≡ Some n → (b ≡ true → n ≡ x → P) → (y ≡ Some n → P) → P
 pick_of true x n y e hit miss = hit refl (sym (some_same e))
 pick_of false x n y e hit miss = miss e
+
+-- the same, where the branch not taken wants to know that it was not
+pub pick_not : {P S : Type 0} (b : Bool) (x n : S) (y : Option S) → cond b (Some x) y ≡ Some n → (b ≡ true → n ≡ x → P) → (b ≡ false → y ≡ Some n → P) → P
+pick_not true x n y e hit miss = hit refl (sym (some_same e))
+pick_not false x n y e hit miss = miss refl e
+
+pub scalars_join : (a b : List ℕ) → all_scalars a ≡ true → all_scalars b ≡ true → all_scalars (a ++ b) ≡ true
+scalars_join [] b e f = f
+scalars_join (c ∷ a) b e f = let k = both_parts _ _ e in and_true _ _ k.0 (scalars_join a b k.1 f)

@@ -2,7 +2,6 @@
 use Rattle.std.proofs.Common.{◌≡◌, refl, ℕ, zero, suc, ◌+◌, ◌*◌, ◌<◌, Bool, true, false, cond, nat_lt, ◌==◌, ◌&&◌, List, [], ◌∷◌, ◌++◌, Option, Some, None, ◌⊎◌, inl, inr, ⊎_elim, length, map, flat_map, sym, ◌∙◌, ap, subst, append_assoc, arith, codes, length-append}
 use Rattle.std.specs.List.{AllByRecursion}
 use Rattle.std.specs.Char.{digit_value}
-use Rattle.std.specs.Str.{all_scalars}
 use Rattle.std.proofs.lemmas.List.{append-nil}
 use Rattle.bye_terms.specs.Characters.{is_letter, is_scheme_char, is_iri_char}
 use Rattle.bye_terms.proofs.Tests.{both_parts}
@@ -12,10 +11,11 @@ use Rattle.bye_lex.specs.Iris.{IsIriPiece, IriToken, IriLetter, IriScheme, IriTa
 use Rattle.bye_lex.specs.IriSteps.{is_iri_open, after_digit, step, final}
 use Rattle.bye_lex.specs.declared.iri.IriAt.{IriAt}
 use Rattle.bye_lex.specs.declared.iri.IriAt.TheVariants.{Start, Opened, Scheme, Body, Backslash, Digits, Done}
-use Rattle.bye_lex.proofs.Branches.{when, unless, chosen, eqb_same, same_eqb, never, heads, some_same, none_some, snoc, and_true, pick_of}
+use Rattle.bye_lex.proofs.Branches.{when, unless, chosen, eqb_same, same_eqb, never, heads, some_same, none_some, snoc, and_true, pick_of, scalars_join}
 use Rattle.bye_lex.proofs.Scans.{Exact}
 use Rattle.bye_lex.proofs.Numbers.{opens, digits_for}
-use Rattle.bye_lex.proofs.IriMeaning.{After, DigitsTail, Left}
+use Rattle.bye_lex.proofs.IriMeaning.{DigitsTail, Left}
+use Rattle.bye_lex.proofs.Meanings.{After}
 
 -- forward
 abbrev Next : Bool → IriAt → ℕ → List ℕ → List ℕ → Type 0
@@ -274,10 +274,6 @@ back x (Done out) n c t v a e h = none_some e
 tail_end : (x : Bool) → IriTail x (62 ∷ []) []
 tail_end x = record { pieces = []; each = tt; spelled = refl; stands = refl }
 
-scalars_snoc : (ds : List ℕ) → all_scalars ds ≡ true → all_scalars (ds ++ 62 ∷ []) ≡ true
-scalars_snoc [] e = refl
-scalars_snoc (d ∷ ds) e = let k = both_parts _ _ e in and_true _ _ k.0 (scalars_snoc ds k.1)
-
 can_body : (x : Bool) (out : List ℕ) → Viable (Left x (Body out)) []
 can_body x out = record { more = 62 ∷ []; scalars = refl; value = out ++ []; whole = record { own = []; is = tail_end x; stands = refl } }
 
@@ -290,7 +286,7 @@ can_backslash x has out = record { more = codes "u0021>"; scalars = refl; value 
 can_digits : (x : Bool) → x ≡ true → (left n : ℕ) (out : List ℕ) → is_iri_open (suc left) n ≡ true → Viable (Left x (Digits left n out)) []
 can_digits x has left n out e =
     let d = digits_for (suc left) n e in
-    record { more = d.0 ++ 62 ∷ []; scalars = scalars_snoc d.0 d.4; value = out ++ number n d.0 ∷ []; whole = (has, record { own = number n d.0 ∷ []; is = record { digits = d.0; tail = 62 ∷ []; tail_value = []; hex = d.1; full = d.2; allowed = d.3; after = tail_end x; spelled = refl; stands = refl }; stands = refl }) }
+    record { more = d.0 ++ 62 ∷ []; scalars = scalars_join d.0 (62 ∷ []) d.4 refl; value = out ++ number n d.0 ∷ []; whole = (has, record { own = number n d.0 ∷ []; is = record { digits = d.0; tail = 62 ∷ []; tail_value = []; hex = d.1; full = d.2; allowed = d.3; after = tail_end x; spelled = refl; stands = refl }; stands = refl }) }
 
 can_open : (x : Bool) → Viable (Left x Opened) []
 can_open x = record { more = codes "a:>"; scalars = refl; value = codes "a:"; whole = record { first = 97; letter = refl; rest = codes ":>"; rest_value = codes ":"; after = record { scheme = []; each = tt; tail = 62 ∷ []; tail_value = []; after = tail_end x; spelled = refl; stands = refl }; spelled = refl; stands = refl } }

@@ -1,29 +1,14 @@
 -- What each state of the machine of IRIs still wants, in the grammar's words.
-use Rattle.std.specs.Prelude.{◌≡◌, ℕ, zero, suc, Bool, true, List, [], ◌∷◌, ◌++◌, length}
-use Rattle.std.specs.List.{AllByRecursion}
-use Rattle.bye_lex.specs.Escapes.{IsHex, number}
+use Rattle.std.specs.Prelude.{◌≡◌, ℕ, zero, suc, Bool, true, List, [], ◌∷◌}
 use Rattle.bye_lex.specs.Iris.{IriToken, IriLetter, IriScheme, IriTail}
 use Rattle.bye_lex.specs.IriSteps.{is_iri_open}
+use Rattle.bye_lex.proofs.Meanings.{After, EscapeTail}
 use Rattle.bye_lex.specs.declared.iri.IriAt.{IriAt}
 use Rattle.bye_lex.specs.declared.iri.IriAt.TheVariants.{Start, Opened, Scheme, Body, Backslash, Digits, Done}
 
--- out stands before what the text stands for
-pub record After (L : List ℕ → List ℕ → Type 0) (out text value : List ℕ) : Type 0 where
-  pub own : List ℕ
-  pub is : L text own
-  pub stands : value ≡ out ++ own
-
 -- so many digits, which make the number of an IRI's character, and the tail
-pub record DigitsTail (escapes : Bool) (count n : ℕ) (text value : List ℕ) : Type 0 where
-  pub digits : List ℕ
-  pub tail : List ℕ
-  pub tail_value : List ℕ
-  pub hex : AllByRecursion IsHex digits
-  pub full : length digits ≡ count
-  pub allowed : is_iri_open zero (number n digits) ≡ true
-  pub after : IriTail escapes tail tail_value
-  pub spelled : text ≡ digits ++ tail
-  pub stands : value ≡ number n digits ∷ tail_value
+abbrev pub DigitsTail : Bool → ℕ → ℕ → List ℕ → List ℕ → Type 0
+DigitsTail escapes = EscapeTail (is_iri_open zero) (IriTail escapes)
 
 -- A state that has looked at a backslash wants what the state before it did, with the backslash put back.
 abbrev pub Left : Bool → IriAt → List ℕ → List ℕ → Type 0

@@ -143,16 +143,24 @@ iri_down left m e = let k = both_parts _ _ e in and_true _ _ (down left m k.0) (
 pub below : (n : ℕ) → nat_lt n 16 ≡ true → n < 16
 below n e = grind (arith, nat_tests)
 
--- digits that make an IRI's character were open before each
-pub opens : (ds : List ℕ) (m left : ℕ) → AllByRecursion IsHex ds → length ds ≡ left → is_iri_open zero (number m ds) ≡ true → is_iri_open left m ≡ true
-opens [] m zero hex full a = a
-opens [] m (suc left) hex full a = absurd (omega (arith, full))
-opens (d ∷ ds) m zero hex full a = absurd (omega (arith, full))
-opens (d ∷ ds) m (suc left) (h, hex) full a = iri_up left m (digit_value d) (below _ h) (opens ds (m * 16 + digit_value d) left hex (omega (arith, full)) a)
+-- digits that make an allowed character were open before each
+pub opened_before : (may_be : ℕ → ℕ → Bool) → ((left m d : ℕ) → d < 16 → may_be left (m * 16 + d) ≡ true → may_be (suc left) m ≡ true)
+    → (ds : List ℕ) (m left : ℕ) → AllByRecursion IsHex ds → length ds ≡ left → may_be zero (number m ds) ≡ true → may_be left m ≡ true
+opened_before may_be up_by [] m zero hex full a = a
+opened_before may_be up_by [] m (suc left) hex full a = absurd (omega (arith, full))
+opened_before may_be up_by (d ∷ ds) m zero hex full a = absurd (omega (arith, full))
+opened_before may_be up_by (d ∷ ds) m (suc left) (h, hex) full a = up_by left m (digit_value d) (below _ h) (opened_before may_be up_by ds (m * 16 + digit_value d) left hex (omega (arith, full)) a)
 
 -- and where it is open there are such digits
+pub digits_from : (may_be : ℕ → ℕ → Bool) → ((left m : ℕ) → may_be (suc left) m ≡ true → may_be left (m * 16 + pick left) ≡ true)
+    → (left n : ℕ) → may_be left n ≡ true → (ds : List ℕ) × AllByRecursion IsHex ds × (length ds ≡ left) × (may_be zero (number n ds) ≡ true) × (all_scalars ds ≡ true)
+digits_from may_be down_by zero n e = ([], tt, refl, e, refl)
+digits_from may_be down_by (suc zero) n e = let k = digits_from may_be down_by zero (n * 16 + 1) (down_by zero n e) in (49 ∷ k.0, (refl, k.1), ap suc k.2, k.3, k.4)
+digits_from may_be down_by (suc (suc zero)) n e = let k = digits_from may_be down_by (suc zero) (n * 16 + 2) (down_by (suc zero) n e) in (50 ∷ k.0, (refl, k.1), ap suc k.2, k.3, k.4)
+digits_from may_be down_by (suc (suc (suc left))) n e = let k = digits_from may_be down_by (suc (suc left)) (n * 16 + 0) (down_by (suc (suc left)) n e) in (48 ∷ k.0, (refl, k.1), ap suc k.2, k.3, k.4)
+
+pub opens : (ds : List ℕ) (m left : ℕ) → AllByRecursion IsHex ds → length ds ≡ left → is_iri_open zero (number m ds) ≡ true → is_iri_open left m ≡ true
+opens = opened_before is_iri_open iri_up
+
 pub digits_for : (left n : ℕ) → is_iri_open left n ≡ true → (ds : List ℕ) × AllByRecursion IsHex ds × (length ds ≡ left) × (is_iri_open zero (number n ds) ≡ true) × (all_scalars ds ≡ true)
-digits_for zero n e = ([], tt, refl, e, refl)
-digits_for (suc zero) n e = let k = digits_for zero (n * 16 + 1) (iri_down zero n e) in (49 ∷ k.0, (refl, k.1), ap suc k.2, k.3, k.4)
-digits_for (suc (suc zero)) n e = let k = digits_for (suc zero) (n * 16 + 2) (iri_down (suc zero) n e) in (50 ∷ k.0, (refl, k.1), ap suc k.2, k.3, k.4)
-digits_for (suc (suc (suc left))) n e = let k = digits_for (suc (suc left)) (n * 16 + 0) (iri_down (suc (suc left)) n e) in (48 ∷ k.0, (refl, k.1), ap suc k.2, k.3, k.4)
+digits_for = digits_from is_iri_open iri_down

@@ -8,3 +8,9 @@ pub mod Scanning
 pub mod IriSteps
 pub mod MarkSteps
 pub mod Spelled
+pub mod Strings
+pub mod StringSteps
+pub mod Laws
+pub mod Ends
+pub mod Written
+pub mod ReadingBack

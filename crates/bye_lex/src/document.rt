@@ -1,10 +1,10 @@
 //! The bytes of a document as characters.
 
-ghost use Rattle.std.specs.Prelude.{◌≡◌, ◌+◌, drop, length};
+ghost use Rattle.std.specs.Prelude.{◌≡◌, ◌+◌, ◌++◌, ◌∷◌, [], drop, length, IfOk};
 ghost use Rattle.std.specs.Str.{encode_utf8_all};
 ghost use Rattle.bye_lex.specs.Answers.{IsBorder, text_at};
 
-use bye_terms::Cursor;
+use bye_terms::{Cursor, Memory, Text};
 use std::str;
 
 fn text_from(bytes: &[u8], from: usize) -> &str
@@ -25,4 +25,12 @@ pub fn cursor_at(bytes: &[u8], from: usize) -> Cursor<'_>
     ensures within { from + length (encode_utf8_all result) ≡ length bytes.now }
 {
     Cursor::new(text_from(bytes, from))
+}
+
+/// The text with one more character.
+pub fn with(mut text: Text, c: char) -> Result<Text, Memory>
+    ensures { IfOk result (λ t. t ≡ text ++ c ∷ []) }
+{
+    text.push_char(c)?;
+    Ok(text)
 }

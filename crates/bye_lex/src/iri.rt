@@ -4,11 +4,11 @@ ghost use Rattle.bye_lex.specs.Iris.{IriToken, has_numbers};
 ghost use Rattle.bye_lex.specs.IriSteps as spec;
 ghost use Rattle.bye_lex.specs.Scanning.{Gives, scan};
 ghost use Rattle.bye_lex.specs.declared.iri.IriAt.TheVariants.{Start as spec_start, Opened as spec_opened, Scheme as spec_scheme, Body as spec_body, Backslash as spec_backslash, Digits as spec_digits};
-ghost use Rattle.std.specs.Char.{digit_value};
 ghost use Rattle.std.specs.Prelude.{◌≡◌, ◌++◌, ◌∷◌, [], ℕ, Some, None, Ok, Err, IfOk, MatchOption, true, ◌<◌, ◌≤◌, length};
 ghost use Rattle.std.specs.Str.{encode_utf8_all, IsUtf8};
 
-use crate::document::cursor_at;
+use crate::document::{cursor_at, with};
+use crate::escape::{hex_value, is_open};
 use crate::fault::LexErr;
 use crate::style::Style;
 use bye_terms::characters::{is_iri_char, is_letter, is_scheme_char};
@@ -28,20 +28,6 @@ pub enum IriAt {
     Done(Text),
 }
 
-fn is_open(left: u8, number: u32) -> bool
-    ensures { result ≡ spec.is_open left number }
-{
-    match left {
-        0 => char::from_u32(number).is_some(),
-        1 => number < 0xD80 || number > 0xDFF && number < 0x1_1000,
-        2 => number < 0xD8 || number > 0xDF && number < 0x1100,
-        3 => number < 0x110,
-        4 => number < 0x11,
-        5 => number < 2,
-        _ => number == 0,
-    }
-}
-
 /// Whether such digits may follow that the number is that of an IRI's character.
 fn is_iri_open(left: u8, number: u32) -> bool
     ensures { result ≡ spec.is_iri_open left number }
@@ -59,13 +45,6 @@ fn is_iri_open(left: u8, number: u32) -> bool
     }
 }
 
-fn with(mut text: Text, c: char) -> Result<Text, Memory>
-    ensures { IfOk result (λ t. t ≡ text ++ c ∷ []) }
-{
-    text.push_char(c)?;
-    Ok(text)
-}
-
 fn after_digit(left: u8, number: u32, text: Text) -> Result<Option<IriAt>, Memory>
     ensures { IfOk result (λ o. o ≡ spec.after_digit left number text) }
 {
@@ -78,17 +57,6 @@ fn after_digit(left: u8, number: u32, text: Text) -> Result<Option<IriAt>, Memor
     match char::from_u32(number) {
         Some(c) => Ok(Some(IriAt::Body(with(text, c)?))),
         None => Ok(None),
-    }
-}
-
-fn hex_value(c: char) -> Option<u8>
-    ensures { MatchOption result (digit_value c < 16 → ⊥) (λ d. (d ≡ digit_value c) × (d < 16)) }
-{
-    match c {
-        '0'..='9' => Some(c as u8 - b'0'),
-        'A'..='F' => Some(c as u8 - b'A' + 10),
-        'a'..='f' => Some(c as u8 - b'a' + 10),
-        _ => None,
     }
 }
 
@@ -180,15 +148,6 @@ pub fn step(alloc: Global, at: IriAt, c: char, escapes: bool) -> Result<Option<I
     }
 }
 
-fn numbered(style: Style) -> bool
-    ensures { result ≡ has_numbers style }
-{
-    match style {
-        Style::Triples | Style::Tsv => true,
-        Style::Query => false,
-    }
-}
-
 fn iri_in(
     alloc: Global,
     mut rest: Cursor<'_>,
@@ -237,7 +196,7 @@ pub fn iri_at(
     requires border { IsBorder bytes.now from }
     ensures { Reads (IriToken (has_numbers style)) (text_at bytes.now from) from result }
 {
-    let (text, end) = iri_text(alloc, bytes, from, numbered(style))?;
+    let (text, end) = iri_text(alloc, bytes, from, style.has_numbers())?;
     match Iri::from_text(text) {
         Some(iri) => Ok((iri, end)),
         None => unreachable!(),

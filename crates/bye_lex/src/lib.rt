@@ -1,16 +1,26 @@
-//! Tokens of RDF's text formats, each read exactly: IRIs, labels of blank nodes, language tags and names of variables.
+//! Tokens of RDF's text formats, each read exactly: IRIs, strings, labels of blank nodes, language tags and names of
+//! variables; and the written spelling of terms.
 #![tactic(auto)]
 
 mod document;
+mod escape;
 mod fault;
 mod iri;
+mod laws;
 mod mark;
+mod string;
 mod style;
+mod write;
 
 pub use fault::LexErr;
 pub use iri::{IriAt, iri_at};
+pub use laws::{one_answer, one_term, reads_back};
 pub use mark::{MarkAt, label_at, name_at, tag_at};
+pub use string::{Quote, Quoting, StringAt, string_at};
 pub use style::Style;
+pub use write::{push_term, written_as_ordered};
 
 #[cfg(test)]
 mod tests;
+#[cfg(test)]
+mod write_tests;

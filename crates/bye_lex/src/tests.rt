@@ -190,3 +190,82 @@ fn reads_names(rt: HostRuntime) {
         assert!(rt; right, "{text:?}");
     }
 }
+
+#[test]
+fn reads_strings(rt: HostRuntime) {
+    for (text, style, value, place) in [
+        ("\"\"", Style::Triples, "", 2),
+        ("\"\"\"", Style::Triples, "", 2),
+        (
+            "\"a'b\u{E9}\u{10348}\t\" .",
+            Style::Triples,
+            "a'b\u{E9}\u{10348}\t",
+            12,
+        ),
+        (
+            "\"\\t\\b\\n\\r\\f\\\"\\'\\\\\"",
+            Style::Triples,
+            "\t\u{8}\n\r\u{C}\"'\\",
+            18,
+        ),
+        (
+            "\"\\u00e9\\U0001F600\\u0000\\uFFFF\"",
+            Style::Tsv,
+            "\u{E9}\u{1F600}\u{0}\u{FFFF}",
+            30,
+        ),
+        ("'a\"b'\t", Style::Tsv, "a\"b", 5),
+        ("'a\\tb'", Style::Query, "a\tb", 6),
+        ("\"a\tb\"", Style::Query, "a\tb", 5),
+        ("\"\" \"", Style::Query, "", 2),
+        ("\"\"\"\"\"\"", Style::Query, "", 6),
+        (
+            "\"\"\"a\n\r'\"b\"\"c\"\"\"\"",
+            Style::Query,
+            "a\n\r'\"b\"\"c",
+            15,
+        ),
+        ("'''\"\\'\\n'''", Style::Query, "\"'\n", 11),
+        ("'''a''\\u'''", Style::Query, "", 2),
+        ("\"\"\"a\"\"", Style::Query, "", 2),
+    ] {
+        let answer = string_at(rt.alloc(), text.as_bytes(), 0, style);
+        let right = match &answer {
+            Ok((found, end)) => reads(found, *end, value, place),
+            Err(_) => false,
+        };
+        assert!(rt; right, "{text:?}");
+    }
+}
+
+#[test]
+fn refuses_strings(rt: HostRuntime) {
+    for (text, style, place) in [
+        ("", Style::Query, None),
+        ("\"", Style::Query, None),
+        ("\"a", Style::Triples, None),
+        ("\"a\\", Style::Triples, None),
+        ("\"\\uD7F", Style::Triples, None),
+        ("a\"", Style::Triples, Some(0)),
+        ("'a'", Style::Triples, Some(0)),
+        ("\"a\nb\"", Style::Triples, Some(2)),
+        ("\"a\rb\"", Style::Query, Some(2)),
+        ("\"a\tb\"", Style::Tsv, Some(2)),
+        ("'\u{E9}\n'", Style::Tsv, Some(3)),
+        ("\"\\a\"", Style::Triples, Some(2)),
+        ("\"\\u0041\"", Style::Query, Some(2)),
+        ("\"\\ud8", Style::Triples, Some(4)),
+        ("\"\\uDFFF\"", Style::Triples, Some(4)),
+        ("\"\\U0011", Style::Triples, Some(6)),
+        ("\"\\U00110000\"", Style::Tsv, Some(6)),
+        ("\"\\U02", Style::Tsv, Some(4)),
+        ("\"\\u00G0\"", Style::Tsv, Some(5)),
+    ] {
+        let answer = string_at(rt.alloc(), text.as_bytes(), 0, style);
+        let right = match &answer {
+            Ok(_) => false,
+            Err(fault) => refuses(fault, place),
+        };
+        assert!(rt; right, "{text:?}");
+    }
+}
