@@ -1,8 +1,8 @@
--- The words of `learn` stand in one of two orders, and say one command.
+-- The words of `learn` stand in one of two orders, those of `convert` in one, and they say one command.
 use Rattle.std.proofs.Common.{◌≡◌, ℕ, List, [], ◌∷◌, length, get_or, codes, inl, inr, ◌⊎◌, ⊎_elim, sym, ◌∙◌, ap, arith, map}
 use Rattle.std.specs.List.{AllByRecursion, flat_map}
 use Rattle.bye_terms.specs.Members.{In, EachOnce}
-use Rattle.bye_cli.specs.Words.{Word, Setting, setting_words, IsLearn, Command, Learn, IsCommand}
+use Rattle.bye_cli.specs.Words.{Word, Setting, setting_words, IsLearn, IsConvert, Command, Learn, Convert, IsCommand}
 
 abbrev G : Word
 G = codes "--graph"
@@ -65,10 +65,35 @@ same_names words g w h v (inl a) (inr b) = absurd (mixed words g w h v a b)
 same_names words g w h v (inr a) (inl b) = absurd (mixed words h v g w b a)
 same_names words g w h v (inr a) (inr b) = (ap (λ (ws : List Word). get_or ws 4 []) (sym a ∙ b), ap (λ (ws : List Word). get_or ws 2 []) (sym a ∙ b))
 
+one_setting : (ss : List Setting) (g : Word) → AllByRecursion (λ o. In (G ∷ []) o.0) ss → EachOnce (map (λ o. o.0) ss) → In ss (G, g) → ss ≡ (G, g) ∷ []
+one_setting [] g named once a = absurd a
+one_setting (x ∷ []) g named once (inl a) = (λ i. a i ∷ [])
+one_setting (x ∷ []) g named once (inr a) = absurd a
+one_setting (x ∷ y ∷ ss) g named once a = absurd (once.0 (inl (sym (only y.0 named.1.0) ∙ only x.0 named.0)))
+  where
+    only : (n : Word) → In (G ∷ []) n → G ≡ n
+    only n (inl e) = e
+    only n (inr h) = absurd h
+
+-- the words of `convert`
+pub one_order : (words : List Word) (g : Word) → IsConvert words g → words ≡ codes "convert" ∷ G ∷ g ∷ []
+one_order words g h =
+    h.line.parts ∙ ap (λ ss. codes "convert" ∷ flat_map setting_words ss) (one_setting h.settings g h.line.named h.line.once h.graph_named)
+
+pub five_long : (words : List Word) (g w : Word) → IsLearn words g w → length words ≡ 5
+five_long words g w h = ⊎_elim (λ e. ap length e) (λ e. ap length e) (two_orders words g w h)
+
+pub three_long : (words : List Word) (g : Word) → IsConvert words g → length words ≡ 3
+three_long words g h = ap length (one_order words g h)
+
+-- no words are of both commands
+pub not_both : (words : List Word) (g w h : Word) → IsLearn words g w → IsConvert words h → ⊥
+not_both words g w h a b = let five = five_long words g w a in let three = three_long words h b in omega arith
+
 pub one_command : (words : List Word) (c d : Command) → IsCommand words c → IsCommand words d → c ≡ d
 one_command words (Learn g w) (Learn h v) a b =
     let same = same_names words g w h v (two_orders words g w a) (two_orders words h v b) in
     (λ i. Learn (same.0 i) (same.1 i))
-
-pub five_long : (words : List Word) (c : Command) → IsCommand words c → length words ≡ 5
-five_long words (Learn g w) h = ⊎_elim (λ e. ap length e) (λ e. ap length e) (two_orders words g w h)
+one_command words (Learn g w) (Convert h) a b = absurd (not_both words g w h a b)
+one_command words (Convert g) (Learn h v) a b = absurd (not_both words h v g b a)
+one_command words (Convert g) (Convert h) a b = ap Convert (ap (λ (ws : List Word). get_or ws 2 []) (sym (one_order words g a) ∙ one_order words h b))

@@ -1,193 +1,204 @@
 -- Where a folder tells its files, the words and the files leave one way to end.
-use Rattle.std.proofs.Common.{◌≡◌, refl, ℕ, ◌<◌, ◌≤◌, List, [], ◌∷◌, length, Option, Some, None, ⊎_elim, sym, ◌∙◌, ap, subst, arith}
-use Rattle.bye_io.specs.Files.{Lacks}
+use Rattle.std.proofs.Common.{◌≡◌, refl, ℕ, ◌<◌, List, [], ◌∷◌, length, Option, Some, None, inl, inr, sym, ◌∙◌, ap, subst, arith}
 use Rattle.bye_terms.specs.Terms.{Statement}
-use Rattle.bye_ntriples.proofs.Lines.{same_triples}
-use Rattle.bye_pattern.proofs.TableTexts.{same_tables}
 use Rattle.bye_pattern.specs.Mappings.{Pairs}
 use Rattle.bye_pattern.specs.Tables.{TableValue}
-use Rattle.bye_cli.specs.Words.{Word, IsLearn, Command, Learn, IsCommand, IsSomeCommand}
-use Rattle.bye_cli.specs.Documents.{Files, IsTold, Role, Graph, Wanted, Document, due, limit_of, Value, Triples, Rows, Says, Verdict, TooLong, Faulty, Good, IsVerdict, HasVerdict, Reaches, Stops}
-use Rattle.bye_cli.specs.Problem.{IsGiven, IsAsked}
-use Rattle.bye_cli.specs.Causes.{IsStopped, IsMissing, IsWithoutRow}
+use Rattle.bye_cli.specs.Words.{Word, Command, Learn, Convert, IsCommand, IsSomeCommand}
+use Rattle.bye_cli.specs.Documents.{Files, IsTold, Document, due, Value, Triples, Rows, TooMany, Faulty, Good, HasVerdict, Reaches}
+use Rattle.bye_cli.specs.Problem.{IsGiven}
+use Rattle.bye_cli.specs.Causes.{IsFaulty, IsPast, IsMissing, IsWithoutRow, IsAskedCase}
 use Rattle.bye_cli.proofs.Commands.{one_command}
+use Rattle.bye_cli.proofs.Verdicts.{State, Absent, Judged, HasState, one_state}
 
--- bytes say one value, and have one verdict
-one_value : (role : Role) (bytes : List ℕ) (v w : Value) → Says role bytes v → Says role bytes w → v ≡ w
-one_value Graph bytes (Triples a) (Triples b) h k = ap Triples (same_triples bytes a b h k)
-one_value Graph bytes (Triples a) (Rows b) h k = absurd k
-one_value Graph bytes (Rows a) w h k = absurd h
-one_value Wanted bytes (Triples a) w h k = absurd h
-one_value Wanted bytes (Rows a) (Triples b) h k = absurd k
-one_value Wanted bytes (Rows a) (Rows b) h k = ap Rows (same_tables bytes a b h k)
+-- how the reading of documents ends: at one that says no value, or with the values of all
+data Halt : Type 0 where
+  Stop : State → Halt
+  End : List Value → Halt
 
-past : {X : Type 0} (m n : ℕ) → m < n → n ≤ m → X
-past m n h k = absurd (omega arith)
+-- no value
+abbrev Holds : State → Type 0
+Holds Absent = Unit {0}
+Holds (Judged (TooMany count)) = Unit {0}
+Holds (Judged (Faulty fault)) = Unit {0}
+Holds (Judged (Good value)) = ⊥
 
-one_verdict : (role : Role) (bytes : List ℕ) (v w : Verdict) → IsVerdict role bytes v → IsVerdict role bytes w → v ≡ w
-one_verdict role bytes TooLong TooLong h k = refl
-one_verdict role bytes TooLong Faulty h k = past (limit_of role) (length bytes) h k.0
-one_verdict role bytes TooLong (Good y) h k = past (limit_of role) (length bytes) h k.0
-one_verdict role bytes Faulty TooLong h k = past (limit_of role) (length bytes) k h.0
-one_verdict role bytes Faulty Faulty h k = refl
-one_verdict role bytes Faulty (Good y) h k = absurd (h.1 y k.1)
-one_verdict role bytes (Good x) TooLong h k = past (limit_of role) (length bytes) k h.0
-one_verdict role bytes (Good x) Faulty h k = absurd (k.1 x h.1)
-one_verdict role bytes (Good x) (Good y) h k = ap Good (one_value role bytes x y h.1 k.1)
+-- a document that is reached has this state, which is no value
+record StopsSo (files : Files) (ds : List Document) (s : State) : Type 0 where
+  at : Document
+  reached : Reaches files ds at
+  state : HasState files at s
+  holds : Holds s
 
--- a document has a verdict, or is not there
-HasState : Files → Document → Option Verdict → Type 0
-HasState files d None = Lacks files d.1
-HasState files d (Some v) = HasVerdict files d v
+-- each document says its value
+abbrev Say : Files → List Document → List Value → Type 0
+Say files [] [] = Unit {0}
+Say files [] (v ∷ vs) = ⊥
+Say files (d ∷ ds) [] = ⊥
+Say files (d ∷ ds) (v ∷ vs) = HasVerdict files d (Good v) × Say files ds vs
 
-one_state : (files : List ℕ → Option (List ℕ)) (d : Document) (s t : Option Verdict) → HasState (Some files) d s → HasState (Some files) d t → s ≡ t
-unfolding HasState
-one_state files d None None h k = refl
-one_state files d None (Some w) h k = let held = k.held in cc
-one_state files d (Some v) None h k = let held = h.held in cc
-one_state files d (Some v) (Some w) h k =
-    let e = sym h.held ∙ k.held in
-    let same : h.bytes ≡ k.bytes = cc in
-    ap Some (one_verdict d.0 k.bytes v w (subst (λ (bytes : List ℕ). IsVerdict d.0 bytes v) same h.judged) k.judged)
+abbrev Halts : Files → List Document → Halt → Type 0
+Halts files ds (Stop s) = StopsSo files ds s
+Halts files ds (End values) = Say files ds values
+
+good_is_no_stop : (files : List ℕ → Option (List ℕ)) (d : Document) (v : Value) (s : State) → HasVerdict (Some files) d (Good v) → HasState (Some files) d s → Holds s → ⊥
+good_is_no_stop files d v s h k holds = subst Holds (sym (one_state files d (Judged (Good v)) s h k)) holds
+
+same_stop : (files : List ℕ → Option (List ℕ)) (ds : List Document) (d e : Document) (s t : State)
+    → Reaches (Some files) ds d → HasState (Some files) d s → Holds s → Reaches (Some files) ds e → HasState (Some files) e t → Holds t → s ≡ t
+same_stop files [] d e s t a h i b k j = absurd a
+same_stop files (x ∷ ds) d e s t (inl p) h i (inl q) k j =
+    one_state files x s t (subst (λ (d : Document). HasState (Some files) d s) (sym p) h) (subst (λ (d : Document). HasState (Some files) d t) (sym q) k)
+same_stop files (x ∷ ds) d e s t (inl p) h i (inr (v, good, b)) k j = absurd (good_is_no_stop files x v s good (subst (λ (d : Document). HasState (Some files) d s) (sym p) h) i)
+same_stop files (x ∷ ds) d e s t (inr (v, good, a)) h i (inl q) k j = absurd (good_is_no_stop files x v t good (subst (λ (d : Document). HasState (Some files) d t) (sym q) k) j)
+same_stop files (x ∷ ds) d e s t (inr (v, good, a)) h i (inr (w, fine, b)) k j = same_stop files ds d e s t a h i b k j
+
+stop_is_no_end : (files : List ℕ → Option (List ℕ)) (ds : List Document) (d : Document) (s : State) (vs : List Value)
+    → Reaches (Some files) ds d → HasState (Some files) d s → Holds s → Say (Some files) ds vs → ⊥
+stop_is_no_end files [] d s vs a h i say = a
+stop_is_no_end files (x ∷ ds) d s [] a h i say = say
+stop_is_no_end files (x ∷ ds) d s (v ∷ vs) (inl p) h i say = good_is_no_stop files x v s say.0 (subst (λ (d : Document). HasState (Some files) d s) (sym p) h) i
+stop_is_no_end files (x ∷ ds) d s (v ∷ vs) (inr (w, good, a)) h i say = stop_is_no_end files ds d s vs a h i say.1
+
+value_in : Value → State → Value
+value_in v Absent = v
+value_in v (Judged (TooMany count)) = v
+value_in v (Judged (Faulty fault)) = v
+value_in v (Judged (Good w)) = w
+
+same_values : (files : List ℕ → Option (List ℕ)) (ds : List Document) (vs ws : List Value) → Say (Some files) ds vs → Say (Some files) ds ws → vs ≡ ws
+unfolding value_in
+same_values files [] [] [] a b = refl
+same_values files [] [] (w ∷ ws) a b = absurd b
+same_values files [] (v ∷ vs) ws a b = absurd a
+same_values files (d ∷ ds) [] ws a b = absurd a
+same_values files (d ∷ ds) (v ∷ vs) [] a b = absurd b
+same_values files (d ∷ ds) (v ∷ vs) (w ∷ ws) a b =
+    let first : v ≡ w = ap (value_in v) (one_state files d (Judged (Good v)) (Judged (Good w)) a.0 b.0) in
+    let rest = same_values files ds vs ws a.1 b.1 in
+    (λ i. first i ∷ rest i)
+
+one_halt : (files : List ℕ → Option (List ℕ)) (ds : List Document) (h k : Halt) → Halts (Some files) ds h → Halts (Some files) ds k → h ≡ k
+one_halt files ds (Stop s) (Stop t) a b = ap Stop (same_stop files ds a.at b.at s t a.reached a.state a.holds b.reached b.state b.holds)
+one_halt files ds (Stop s) (End ws) a b = absurd (stop_is_no_end files ds a.at s ws a.reached a.state a.holds b)
+one_halt files ds (End vs) (Stop t) a b = absurd (stop_is_no_end files ds b.at t vs b.reached b.state b.holds a)
+one_halt files ds (End vs) (End ws) a b = ap End (same_values files ds vs ws a b)
 
 -- the ways to end before anything is written, and the last where there is an answer
 pub data Ending : Type 0 where
   Faults : Ending
-  Long : Ending
+  Past : Ending
   Missing : Ending
   Bare : Ending
   Asked : Ending
 
 abbrev pub Ends : Files → List Word → Ending → Type 0
-Ends files words Faults = IsStopped files words Faulty
-Ends files words Long = IsStopped files words TooLong
+Ends files words Faults = IsFaulty files words
+Ends files words Past = IsPast files words
 Ends files words Missing = IsMissing files words
 Ends files words Bare = IsWithoutRow files words
-Ends files words Asked = (graph : List Statement) × (wanted : TableValue) × IsAsked files words graph wanted
+Ends files words Asked = IsAskedCase files words
 
 rows_ending : List Pairs → Ending
 rows_ending [] = Bare
 rows_ending (r ∷ rows) = Asked
 
-after_graph : Option Verdict → Ending
-after_graph None = Missing
-after_graph (Some TooLong) = Long
-after_graph (Some Faulty) = Faults
-after_graph (Some (Good (Triples triples))) = Asked
-after_graph (Some (Good (Rows table))) = rows_ending table.rows
+values_ending : List Value → Ending
+values_ending (v ∷ Rows table ∷ vs) = rows_ending table.rows
+values_ending vs = Asked
 
-ending_of : Option Verdict → Option Verdict → Ending
-ending_of None t = Missing
-ending_of (Some TooLong) t = Long
-ending_of (Some Faulty) t = Faults
-ending_of (Some (Good v)) t = after_graph t
+halt_ending : Halt → Ending
+halt_ending (Stop Absent) = Missing
+halt_ending (Stop (Judged (TooMany count))) = Past
+halt_ending (Stop (Judged (Faulty fault))) = Faults
+halt_ending (Stop (Judged (Good value))) = Asked
+halt_ending (End values) = values_ending values
 
--- the table counts where the graph says a value
-Follows : Files → Word → Option Verdict → Option Verdict → Type 0
-Follows files name None t = Unit {0}
-Follows files name (Some TooLong) t = Unit {0}
-Follows files name (Some Faulty) t = Unit {0}
-Follows files name (Some (Good v)) t = HasState files (Wanted, name) t
-
-record Way (files : Files) (g w : Word) (e : Ending) : Type 0 where
-  first : Option Verdict
-  second : Option Verdict
-  has_first : HasState files (Graph, g) first
-  follows : Follows files w first second
-  is : ending_of first second ≡ e
-
-one_second : (files : List ℕ → Option (List ℕ)) (w : Word) (s t u : Option Verdict) → Follows (Some files) w s t → Follows (Some files) w s u → ending_of s t ≡ ending_of s u
-unfolding Follows ending_of
-one_second files w None t u h k = refl
-one_second files w (Some TooLong) t u h k = refl
-one_second files w (Some Faulty) t u h k = refl
-one_second files w (Some (Good v)) t u h k = ap after_graph (one_state files (Wanted, w) t u h k)
-
-one_way : (files : List ℕ → Option (List ℕ)) (g w : Word) (a b : Ending) → Way (Some files) g w a → Way (Some files) g w b → a ≡ b
-one_way files g w a b h k =
-    let same = one_state files (Graph, g) h.first k.first h.has_first k.has_first in
-    sym h.is ∙ one_second files w h.first h.second k.second h.follows (subst (λ s. Follows (Some files) w s k.second) (sym same) k.follows)
-    ∙ ap (λ s. ending_of s k.second) same ∙ k.is
-
--- each way to end, for the names of the command
-names_of : (words : List Word) (g w : Word) (c : Command) → IsLearn words g w → IsCommand words c → c ≡ Learn g w
-names_of words g w c learn is = one_command words c (Learn g w) is learn
-
-stopped_way : (files : Files) (g w : Word) (v : Verdict) (e : Ending) → ending_of (Some v) None ≡ e → after_graph (Some v) ≡ e → Follows files w (Some v) None
-    → Stops files (due (Learn g w)) v → Way files g w e
-unfolding HasState ending_of Follows
-stopped_way files g w v e i j none stop =
-    ⊎_elim
-    (λ at. record { first = Some v; second = None; has_first = subst (λ (d : Document). HasVerdict files d v) (sym at) stop.has; follows = none; is = i })
-    (λ later. ⊎_elim
-    (λ at. record { first = Some (Good later.0); second = Some v; has_first = later.1; follows = subst (λ (d : Document). HasVerdict files d v) (sym at) stop.has; is = j })
-    (λ h. absurd h.2) later.2)
-    stop.reached
-
-missing_way : (files : Files) (g w : Word) (d : Document) → Reaches files (due (Learn g w)) d → Lacks files d.1 → Way files g w Missing
-unfolding HasState ending_of Follows after_graph
-missing_way files g w d reached lacks =
-    ⊎_elim
-    (λ at. record { first = None; second = None; has_first = subst (λ (d : Document). Lacks files d.1) (sym at) lacks; follows = tt; is = refl })
-    (λ later. ⊎_elim
-    (λ at. record { first = Some (Good later.0); second = None; has_first = later.1; follows = subst (λ (d : Document). Lacks files d.1) (sym at) lacks; is = refl })
-    (λ h. absurd h.2) later.2)
-    reached
-
-given_way : (files : Files) (words : List Word) (graph : List Statement) (wanted : TableValue) (g w : Word) → IsLearn words g w → IsGiven files words graph wanted
-    → Way files g w (rows_ending wanted.rows)
-unfolding HasState ending_of Follows after_graph
-given_way files words graph wanted g w learn given =
-    let same = names_of words g w (Learn given.graph_name given.wanted_name) learn given.learn in
-    let P : Command → Type 0 = λ c. ways c in
-    subst P same (record { first = Some (Good (Triples graph)); second = Some (Good (Rows wanted)); has_first = given.graph_held; follows = given.wanted_held; is = refl })
-  where
-    ways : Command → Type 0
-    ways (Learn g w) = Way files g w (rows_ending wanted.rows)
+-- a command of the words, and how the reading of its documents ends
+record Way (files : Files) (words : List Word) (e : Ending) : Type 0 where
+  command : Command
+  is : IsCommand words command
+  halt : Halt
+  halts : Halts files (due command) halt
+  same : halt_ending halt ≡ e
 
 some_rows : (rows : List Pairs) → 0 < length rows → rows_ending rows ≡ Asked
 unfolding rows_ending
 some_rows [] h = absurd (omega arith)
 some_rows (r ∷ rows) h = refl
 
-way_of : (files : Files) (words : List Word) (g w : Word) (e : Ending) → IsLearn words g w → Ends files words e → Way files g w e
-unfolding ending_of after_graph Follows rows_ending
-way_of files words g w Faults learn (c, is, stop) = stopped_way files g w Faulty Faults refl refl tt (subst (λ c. Stops files (due c) Faulty) (names_of words g w c learn is) stop)
-way_of files words g w Long learn (c, is, stop) = stopped_way files g w TooLong Long refl refl tt (subst (λ c. Stops files (due c) TooLong) (names_of words g w c learn is) stop)
-way_of files words g w Missing learn (c, is, (d, reached, lacks)) = missing_way files g w d (subst (λ c. Reaches files (due c) d) (names_of words g w c learn is) reached) lacks
-way_of files words g w Bare learn (graph, wanted, given, none) = subst (λ (rows : List Pairs). Way files g w (rows_ending rows)) none (given_way files words graph wanted g w learn given)
-way_of files words g w Asked learn (graph, wanted, asked) = subst (Way files g w) (some_rows wanted.rows asked.some_row) (given_way files words graph wanted g w learn asked.given)
-
-command_of : (files : Files) (words : List Word) (e : Ending) → Ends files words e → (g : Word) × (w : Word) × IsLearn words g w
-command_of files words Faults (Learn g w, is, stop) = (g, w, is)
-command_of files words Long (Learn g w, is, stop) = (g, w, is)
-command_of files words Missing (Learn g w, is, h) = (g, w, is)
-command_of files words Bare (graph, wanted, given, none) = (given.graph_name, given.wanted_name, given.learn)
-command_of files words Asked (graph, wanted, asked) = (asked.given.graph_name, asked.given.wanted_name, asked.given.learn)
+way_of : (files : Files) (words : List Word) (e : Ending) → Ends files words e → Way files words e
+unfolding halt_ending values_ending rows_ending
+way_of files words Faults (role, fault, (command, is, stop)) = record {
+  command = command;
+  is = is;
+  halt = Stop (Judged (Faulty fault));
+  halts = record { at = (role, stop.name); reached = stop.reached; state = stop.has; holds = tt };
+  same = refl;
+}
+way_of files words Past (role, count, (command, is, stop)) = record {
+  command = command;
+  is = is;
+  halt = Stop (Judged (TooMany count));
+  halts = record { at = (role, stop.name); reached = stop.reached; state = stop.has; holds = tt };
+  same = refl;
+}
+way_of files words Missing (command, is, (d, reached, lacks)) = record {
+  command = command;
+  is = is;
+  halt = Stop Absent;
+  halts = record { at = d; reached = reached; state = lacks; holds = tt };
+  same = refl;
+}
+way_of files words Bare (graph, wanted, given, none) = record {
+  command = Learn given.graph_name given.wanted_name;
+  is = given.learn;
+  halt = End (Triples graph ∷ Rows wanted ∷ []);
+  halts = (given.graph_held, (given.wanted_held, tt));
+  same = ap rows_ending none;
+}
+way_of files words Asked (inl (graph, wanted, asked)) = record {
+  command = Learn asked.given.graph_name asked.given.wanted_name;
+  is = asked.given.learn;
+  halt = End (Triples graph ∷ Rows wanted ∷ []);
+  halts = (asked.given.graph_held, (asked.given.wanted_held, tt));
+  same = some_rows wanted.rows asked.some_row;
+}
+way_of files words Asked (inr (graph, asked)) = record {
+  command = Convert asked.graph_name;
+  is = asked.convert;
+  halt = End (Triples graph ∷ []);
+  halts = (asked.graph_held, tt);
+  same = refl;
+}
 
 pub some_command : (files : Files) (words : List Word) (e : Ending) → Ends files words e → IsSomeCommand words
-some_command files words e h = let c = command_of files words e h in (Learn c.0 c.1, c.2)
+some_command files words e h = let way = way_of files words e h in (way.command, way.is)
+
+one_way : (files : List ℕ → Option (List ℕ)) (words : List Word) (a b : Ending) → Way (Some files) words a → Way (Some files) words b → a ≡ b
+one_way files words a b h k =
+    let same = one_command words h.command k.command h.is k.is in
+    sym h.same ∙ ap halt_ending (one_halt files (due k.command) h.halt k.halt (subst (λ c. Halts (Some files) (due c) h.halt) same h.halts) k.halts) ∙ k.same
 
 pub one_ending : (files : Files) (words : List Word) (a b : Ending) → IsTold files → Ends files words a → Ends files words b → a ≡ b
 one_ending None words a b told h k = absurd told
-one_ending (Some files) words a b told h k =
-    let c = command_of (Some files) words a h in
-    one_way files c.0 c.1 a b (way_of (Some files) words c.0 c.1 a c.2 h) (way_of (Some files) words c.0 c.1 b c.2 k)
+one_ending (Some files) words a b told h k = one_way files words a b (way_of (Some files) words a h) (way_of (Some files) words b k)
 
 -- what is given is one graph and one table
-same_at : (files : List ℕ → Option (List ℕ)) (d e : Document) (v w : Verdict) → d ≡ e → HasVerdict (Some files) d v → HasVerdict (Some files) e w → v ≡ w
-unfolding HasState
-same_at files d e v w same h k = let s = one_state files e (Some v) (Some w) (subst (λ (d : Document). HasVerdict (Some files) d v) same h) k in cc
+first_value : List Value → List Statement → List Statement
+first_value (Triples triples ∷ vs) other = triples
+first_value vs other = other
+
+second_value : List Value → TableValue → TableValue
+second_value (v ∷ Rows table ∷ vs) other = table
+second_value vs other = other
 
 pub same_given : (files : Files) (words : List Word) (graph other : List Statement) (wanted table : TableValue) → IsTold files
     → IsGiven files words graph wanted → IsGiven files words other table → (graph ≡ other) × (wanted ≡ table)
+unfolding first_value second_value
 same_given None words graph other wanted table told h k = absurd told
 same_given (Some files) words graph other wanted table told h k =
-    let same = names_of words k.graph_name k.wanted_name (Learn h.graph_name h.wanted_name) k.learn h.learn in
-    let gs : h.graph_name ≡ k.graph_name = cc in
-    let ws : h.wanted_name ≡ k.wanted_name = cc in
-    let vs = same_at files (Graph, h.graph_name) (Graph, k.graph_name) (Good (Triples graph)) (Good (Triples other)) (λ i. (Graph, gs i)) h.graph_held k.graph_held in
-    let ts = same_at files (Wanted, h.wanted_name) (Wanted, k.wanted_name) (Good (Rows wanted)) (Good (Rows table)) (λ i. (Wanted, ws i)) h.wanted_held k.wanted_held in
-    let a : graph ≡ other = cc in
-    let b : wanted ≡ table = cc in
-    (a, b)
+    let same = one_command words (Learn h.graph_name h.wanted_name) (Learn k.graph_name k.wanted_name) h.learn k.learn in
+    let values =
+    same_values files (due (Learn k.graph_name k.wanted_name)) (Triples graph ∷ Rows wanted ∷ []) (Triples other ∷ Rows table ∷ [])
+    (subst (λ c. Say (Some files) (due c) (Triples graph ∷ Rows wanted ∷ [])) same (h.graph_held, (h.wanted_held, tt))) (k.graph_held, (k.wanted_held, tt)) in
+    (ap (λ vs. first_value vs graph) values, ap (λ vs. second_value vs wanted) values)

@@ -1,4 +1,10 @@
-pub mod Asked
 pub mod Commands
+pub mod Named
+pub mod Graphs
+pub mod Unread
+pub mod Digits
+pub mod Lines
+pub mod Asked
+pub mod Verdicts
 pub mod Exclusive
 pub mod Settled

@@ -1,179 +1,245 @@
 -- Each status from its cause, and its cause from each status.
-use Rattle.std.proofs.Common.{◌≡◌, refl, ℕ, zero, suc, ◌<◌, ◌≤◌, List, [], ◌∷◌, length, Option, Some, None, inl, inr, ◌⊎◌, ⊎_elim, sym, subst, arith, IsSomeAnd, ◌↔◌}
+use Rattle.std.proofs.Common.{◌≡◌, refl, ℕ, List, Option, inl, inr, ◌⊎◌, ⊎_elim, sym, ◌∙◌, subst, ◌↔◌}
 use Rattle.bye_io.specs.Counts.{Rose}
-use Rattle.bye_io.specs.Files.{Lacks}
-use Rattle.bye_io.specs.declared.fault.ReadErr.{ReadErr}
-use Rattle.bye_io.specs.declared.fault.ReadErr.TheVariants as errors
 use Rattle.bye_terms.specs.Terms.{Statement}
 use Rattle.bye_pattern.specs.Tables.{TableValue}
-use Rattle.bye_cli.specs.Words.{Word, IsLearn, Learn, IsNoCommand, IsSomeCommand}
-use Rattle.bye_cli.specs.Documents.{Files, IsTold, HoldsLonger, Role, Graph, Wanted, limit_of, Triples, TooLong, Good, HasVerdict}
-use Rattle.bye_cli.specs.Problem.{IsAsked, IsQueryText, IsRefusalLine, IsLearnedText, IsRefusalText, IsOutputText}
+use Rattle.bye_cli.specs.Words.{Word, IsNoCommand, IsSomeCommand, IsSomeConvert}
+use Rattle.bye_cli.specs.Documents.{Files, IsTold}
+use Rattle.bye_cli.specs.Problem.{IsAsked, IsQueryText, IsRefusalLine, IsDoneOutput, IsRefusedOutput, IsOutput}
+use Rattle.bye_cli.specs.Converting.{IsConverted, IsConversion}
 use Rattle.bye_cli.specs.Headline.{NoneFits, Headline}
-use Rattle.bye_cli.specs.Causes.{IsUnread, IsCause, IsQuiet, IsAskedCase}
-use Rattle.bye_cli.specs.Statuses.{status_of, IsSilent, IsAnswered, Sends, SendsPart}
+use Rattle.bye_cli.specs.Causes.{IsCause, IsReason, IsFailure, IsUnreadable, IsMissing, IsWithoutRow, IsQuiet, IsAskedCase}
+use Rattle.bye_cli.specs.Messages.{err_line, SendsLine, IsReport, IsMessage}
+use Rattle.bye_cli.specs.Statuses.{status_of, outcome_status, IsAnswered, InUtf8, Sends, SendsPart}
+use Rattle.bye_cli.specs.declared.outcome.Outcome.{Outcome}
+use Rattle.bye_cli.specs.declared.outcome.Outcome.TheVariants as outcomes
+use Rattle.bye_cli.specs.declared.refusal.Refusal.{Refusal}
+use Rattle.bye_cli.specs.declared.refusal.Refusal.TheVariants as refusals
 use Rattle.bye_cli.specs.declared.status.Status.{Status}
-use Rattle.bye_cli.specs.declared.status.Status.TheVariants.{Done, Refused, Words, Document as DocumentStatus, Limit, ReadFault, WriteFault, Memory, Example}
-use Rattle.bye_cli.proofs.Exclusive.{Ending, Faults, Long, Missing, Bare, Asked, Ends, one_ending, some_command, same_given}
+use Rattle.bye_cli.specs.declared.status.Status.TheVariants as statuses
+use Rattle.bye_cli.proofs.Commands.{not_both}
+use Rattle.bye_cli.proofs.Exclusive.{Ending, Faults, Past, Missing, Bare, Asked, Ends, one_ending, some_command, same_given}
 
--- bytes that are more than so many
-longer : (n : ℕ) → (bytes : List ℕ) × (n < length bytes)
-longer zero = (0 ∷ [], omega arith)
-longer (suc n) = let w = longer n in let l : n < length w.0 = w.1 in (0 ∷ w.0, omega arith)
+-- what a run tells of how it ends
+pub record Run (files : Files) (words : List Word) (before now out_before out_now : ℕ) (sent sent_now : Option (List ℕ)) (outcome : Outcome) : Type 0 where
+  pub done : outcome ≡ outcomes.Done → Sends (IsDoneOutput files words) sent sent_now
+  pub refused : outcome ≡ outcomes.Refused → Sends (IsRefusedOutput files words) sent sent_now
+  pub write_fault : outcome ≡ outcomes.Failed refusals.WriteFault → SendsPart (IsOutput files words) sent sent_now
+  pub write_rose : outcome ≡ outcomes.Failed refusals.WriteFault → Rose out_before out_now
+  pub failed : IsFailure files words before now outcome
 
-long_verdict : (files : Files) (role : Role) (name : Word) → HoldsLonger files name (limit_of role) → HasVerdict files (role, name) TooLong
-long_verdict None role name h = let w = longer (limit_of role) in record { bytes = w.0; held = tt; judged = w.1 }
-long_verdict (Some files) role name h = told (files name) refl h
-  where
-    told : (o : Option (List ℕ)) → files name ≡ o → IsSomeAnd o (λ bytes. limit_of role < length bytes) → HasVerdict (Some files) (role, name) TooLong
-    told None e h = absurd h
-    told (Some bytes) e h = record { bytes = bytes; held = e; judged = h }
+done_asked : (files : Files) (words : List Word) (bytes : List ℕ) → IsDoneOutput files words bytes → Ends files words Asked
+done_asked files words bytes h = ⊎_elim (λ k. inl (k.1.graph, k.1.wanted, k.1.asked)) (λ k. inr (k.graph, k.asked)) h
 
--- a document that was not read
-pub unread : (files : Files) (role : Role) (name : Word) (before now : ℕ) (err : ReadErr) (status : Status) → status ≡ status_of err
-    → (err ≡ errors.TooLong → HoldsLonger files name (limit_of role)) → (err ≡ errors.Failed → Rose before now ⊎ Lacks files name) → IsUnread files (role, name) before now status
-unread files role name before now errors.TooLong status e long failed = subst (IsUnread files (role, name) before now) (sym e) (long_verdict files role name (long refl))
-unread files role name before now errors.Failed status e long failed = subst (IsUnread files (role, name) before now) (sym e) (failed refl)
-unread files role name before now errors.Memory status e long failed = subst (IsUnread files (role, name) before now) (sym e) tt
+refused_asked : (files : Files) (words : List Word) (bytes : List ℕ) → IsRefusedOutput files words bytes → Ends files words Asked
+refused_asked files words bytes h = inl (h.1.graph, h.1.wanted, h.1.asked)
 
-pub graph_unread : (files : Files) (words : List Word) (g w : Word) (before now : ℕ) (status : Status) → IsLearn words g w
-    → IsUnread files (Graph, g) before now status → IsCause files words before now status
-graph_unread files words g w before now Done learn h = absurd h
-graph_unread files words g w before now Refused learn h = absurd h
-graph_unread files words g w before now Words learn h = absurd h
-graph_unread files words g w before now DocumentStatus learn h = (Learn g w, learn, record { at = (Graph, g); reached = inl refl; has = h })
-graph_unread files words g w before now Limit learn h = (Learn g w, learn, record { at = (Graph, g); reached = inl refl; has = h })
-graph_unread files words g w before now ReadFault learn h =
-    ((Learn g w, learn), ⊎_elim (λ rose. inl rose) (λ lacks. inr (Learn g w, learn, ((Graph, g), inl refl, lacks))) h)
-graph_unread files words g w before now WriteFault learn h = absurd h
-graph_unread files words g w before now Memory learn h = (Learn g w, learn)
-graph_unread files words g w before now Example learn h = absurd h
-
-rose_later : (before mid now : ℕ) → before ≤ mid → Rose mid now → Rose before now
-rose_later before mid now l rose = omega arith
-
-pub wanted_unread : (files : Files) (words : List Word) (g w : Word) (graph : List Statement) (before mid now : ℕ) (status : Status) → IsLearn words g w
-    → HasVerdict files (Graph, g) (Good (Triples graph)) → before ≤ mid → IsUnread files (Wanted, w) mid now status → IsCause files words before now status
-wanted_unread files words g w graph before mid now Done learn good later h = absurd h
-wanted_unread files words g w graph before mid now Refused learn good later h = absurd h
-wanted_unread files words g w graph before mid now Words learn good later h = absurd h
-wanted_unread files words g w graph before mid now DocumentStatus learn good later h = (Learn g w, learn, record { at = (Wanted, w); reached = inr (Triples graph, good, inl refl); has = h })
-wanted_unread files words g w graph before mid now Limit learn good later h = (Learn g w, learn, record { at = (Wanted, w); reached = inr (Triples graph, good, inl refl); has = h })
-wanted_unread files words g w graph before mid now ReadFault learn good later h =
-    ((Learn g w, learn), ⊎_elim (λ rose. inl (rose_later before mid now later rose)) (λ lacks. inr (Learn g w, learn, ((Wanted, w), inr (Triples graph, good, inl refl), lacks))) h)
-wanted_unread files words g w graph before mid now WriteFault learn good later h = absurd h
-wanted_unread files words g w graph before mid now Memory learn good later h = (Learn g w, learn)
-wanted_unread files words g w graph before mid now Example learn good later h = absurd h
-
--- what a run tells of its status
-pub record Run (files : Files) (words : List Word) (before now out_before out_now : ℕ) (sent sent_now : Option (List ℕ)) (status : Status) : Type 0 where
-  pub done : status ≡ Done → Sends (IsLearnedText files words) sent sent_now
-  pub refused : status ≡ Refused → Sends (IsRefusalText files words) sent sent_now
-  pub write_fault : status ≡ WriteFault → SendsPart (IsOutputText files words) sent sent_now
-  pub write_rose : status ≡ WriteFault → Rose out_before out_now
-  pub cause : IsSilent status → IsCause files words before now status
-
-learned_asked : (files : Files) (words : List Word) (text : List ℕ) → IsLearnedText files words text → Ends files words Asked
-learned_asked files words text h = (h.graph, h.wanted, h.asked)
-
-refusal_asked : (files : Files) (words : List Word) (text : List ℕ) → IsRefusalText files words text → Ends files words Asked
-refusal_asked files words text h = (h.graph, h.wanted, h.asked)
-
-output_asked : (files : Files) (words : List Word) (text : List ℕ) → IsOutputText files words text → Ends files words Asked
-output_asked files words text h = ⊎_elim (λ h. learned_asked files words text h) (λ h. refusal_asked files words text h) h
+output_asked : (files : Files) (words : List Word) (bytes : List ℕ) → IsOutput files words bytes → Ends files words Asked
+output_asked files words bytes h = ⊎_elim (λ k. done_asked files words bytes k) (λ k. refused_asked files words bytes k) h
 
 -- the statuses that stand for a way to end
 abbrev pub Matches : Ending → Status → Type 0
-Matches Faults status = status ≡ DocumentStatus
-Matches Long status = status ≡ Limit
-Matches Missing status = status ≡ ReadFault
-Matches Bare status = status ≡ Example
-Matches Asked status = (status ≡ Done) ⊎ ((status ≡ Refused) ⊎ (status ≡ WriteFault))
+Matches Faults status = status ≡ statuses.Document
+Matches Past status = status ≡ statuses.Limit
+Matches Missing status = status ≡ statuses.ReadFault
+Matches Bare status = status ≡ statuses.Example
+Matches Asked status = (status ≡ statuses.Done) ⊎ ((status ≡ statuses.Refused) ⊎ (status ≡ statuses.WriteFault))
 
-moved : (files : Files) (words : List Word) (e f : Ending) (status : Status) → IsTold files → Ends files words e → Ends files words f → Matches f status → Matches e status
-moved files words e f status told h k m = subst (λ e. Matches e status) (one_ending files words f e told k h) m
+-- why a command fails, but that its output could not be written
+cause_of : (files : Files) (words : List Word) (before now : ℕ) (refusal : Refusal) → IsReason files words before now refusal → (refusal ≡ refusals.WriteFault → ⊥) → IsCause files words before now refusal
+cause_of files words before now refusal h other = ⊎_elim (λ c. c) (λ k. absurd (other k.0)) h
+
+missing_of : (files : Files) (words : List Word) (before now : ℕ) (role : _) → IsUnreadable files words before now role → Rose before now ⊎ IsMissing files words
+missing_of files words before now role h = ⊎_elim (λ rose. inl rose) (λ lacks. inr (h.command, h.is, ((role, h.name), h.reached, lacks))) h.cause
+
+-- the way to end that an outcome shows, or want of memory, or words that are no command's, or a count that rose
+data Shown (files : Files) (words : List Word) (before now : ℕ) (status : Status) : Type 0 where
+  Way : (e : Ending) → Ends files words e → Matches e status → Shown files words before now status
+  NoMemory : status ≡ statuses.Memory → IsSomeCommand words → Shown files words before now status
+  NoWords : status ≡ statuses.Words → IsNoCommand words → Shown files words before now status
+  Risen : status ≡ statuses.ReadFault → Rose before now → IsSomeCommand words → Shown files words before now status
+
+shown : (files : Files) (words : List Word) (before now out_before out_now : ℕ) (sent sent_now : Option (List ℕ)) (outcome : Outcome)
+    → Run files words before now out_before out_now sent sent_now outcome → Shown files words before now (outcome_status outcome)
+shown files words before now ob on s t outcomes.Done run = let w = run.done refl in Way Asked (done_asked files words w.0 w.1) (inl refl)
+shown files words before now ob on s t outcomes.Refused run = let w = run.refused refl in Way Asked (refused_asked files words w.0 w.1) (inr (inl refl))
+shown files words before now ob on s t (outcomes.Failed refusals.Words) run = NoWords refl (cause_of files words before now refusals.Words run.failed (λ e. cc))
+shown files words before now ob on s t (outcomes.Failed (refusals.Document role fault)) run =
+    Way Faults (role, fault, cause_of files words before now (refusals.Document role fault) run.failed (λ e. cc)) refl
+shown files words before now ob on s t (outcomes.Failed (refusals.Limit role count)) run =
+    Way Past (role, count, cause_of files words before now (refusals.Limit role count) run.failed (λ e. cc)) refl
+shown files words before now ob on s t (outcomes.Failed (refusals.ReadFault role)) run =
+    let h = cause_of files words before now (refusals.ReadFault role) run.failed (λ e. cc) in
+    ⊎_elim (λ rose. Risen refl rose (h.command, h.is)) (λ missing. Way Missing missing refl) (missing_of files words before now role h)
+shown files words before now ob on s t (outcomes.Failed refusals.WriteFault) run = let w = run.write_fault refl in Way Asked (output_asked files words w.0 w.1) (inr (inr refl))
+shown files words before now ob on s t (outcomes.Failed refusals.Memory) run = NoMemory refl (cause_of files words before now refusals.Memory run.failed (λ e. cc))
+shown files words before now ob on s t (outcomes.Failed refusals.Example) run = Way Bare (cause_of files words before now refusals.Example run.failed (λ e. cc)) refl
 
 -- where the folder's count did not rise, the status is Memory or one that stands for the way to end
-pub settled : (files : Files) (words : List Word) (before now out_before out_now : ℕ) (sent sent_now : Option (List ℕ)) (status : Status)
-    → Run files words before now out_before out_now sent sent_now status → IsQuiet files before now → (e : Ending) → Ends files words e → (status ≡ Memory) ⊎ Matches e status
-settled files words before now ob on s t Done run quiet e h =
-    let w = run.done refl in inr (moved files words e Asked Done quiet.told h (learned_asked files words w.0 w.1) (inl refl))
-settled files words before now ob on s t Refused run quiet e h =
-    let w = run.refused refl in inr (moved files words e Asked Refused quiet.told h (refusal_asked files words w.0 w.1) (inr (inl refl)))
-settled files words before now ob on s t Words run quiet e h =
-    let c = some_command files words e h in absurd (run.cause tt c.0 c.1)
-settled files words before now ob on s t DocumentStatus run quiet e h = inr (moved files words e Faults DocumentStatus quiet.told h (run.cause tt) refl)
-settled files words before now ob on s t Limit run quiet e h = inr (moved files words e Long Limit quiet.told h (run.cause tt) refl)
-settled files words before now ob on s t ReadFault run quiet e h =
-    ⊎_elim (λ rose. absurd (quiet.rose rose)) (λ missing. inr (moved files words e Missing ReadFault quiet.told h missing refl)) (run.cause tt).1
-settled files words before now ob on s t WriteFault run quiet e h =
-    let w = run.write_fault refl in inr (moved files words e Asked WriteFault quiet.told h (output_asked files words w.0 w.1) (inr (inr refl)))
-settled files words before now ob on s t Memory run quiet e h = inl refl
-settled files words before now ob on s t Example run quiet e h = inr (moved files words e Bare Example quiet.told h (run.cause tt) refl)
+settled_of : (files : Files) (words : List Word) (before now : ℕ) (status : Status) → Shown files words before now status → IsQuiet files before now
+    → (e : Ending) → Ends files words e → Matches e status ⊎ (status ≡ statuses.Memory)
+settled_of files words before now status (Way f k m) quiet e h = inl (subst (λ e. Matches e status) (one_ending files words f e quiet.told k h) m)
+settled_of files words before now status (NoMemory is some) quiet e h = inr is
+settled_of files words before now status (NoWords is none) quiet e h = let c = some_command files words e h in absurd (none c.0 c.1)
+settled_of files words before now status (Risen is rose some) quiet e h = absurd (quiet.rose rose)
 
-swapped : {A B : Type 0} → A ⊎ B → B ⊎ A
-swapped h = ⊎_elim inr inl h
+pub settled : (files : Files) (words : List Word) (before now out_before out_now : ℕ) (sent sent_now : Option (List ℕ)) (outcome : Outcome)
+    → Run files words before now out_before out_now sent sent_now outcome → (status : Status) → status ≡ outcome_status outcome → IsQuiet files before now
+    → (e : Ending) → Ends files words e → Matches e status ⊎ (status ≡ statuses.Memory)
+settled files words before now ob on s t outcome run status is quiet e h =
+    subst (λ (st : Status). Matches e st ⊎ (st ≡ statuses.Memory)) (sym is) (settled_of files words before now (outcome_status outcome) (shown files words before now ob on s t outcome run) quiet e h)
 
--- the status where no command has the words, and where one has
-has_command : (files : Files) (words : List Word) (before now out_before out_now : ℕ) (sent sent_now : Option (List ℕ)) (status : Status)
-    → Run files words before now out_before out_now sent sent_now status → (status ≡ Words) ⊎ IsSomeCommand words
-has_command files words before now ob on s t Done run = let w = run.done refl in inr (some_command files words Asked (learned_asked files words w.0 w.1))
-has_command files words before now ob on s t Refused run = let w = run.refused refl in inr (some_command files words Asked (refusal_asked files words w.0 w.1))
-has_command files words before now ob on s t Words run = inl refl
-has_command files words before now ob on s t DocumentStatus run = inr (some_command files words Faults (run.cause tt))
-has_command files words before now ob on s t Limit run = inr (some_command files words Long (run.cause tt))
-has_command files words before now ob on s t ReadFault run = inr (run.cause tt).0
-has_command files words before now ob on s t WriteFault run = let w = run.write_fault refl in inr (some_command files words Asked (output_asked files words w.0 w.1))
-has_command files words before now ob on s t Memory run = inr (run.cause tt)
-has_command files words before now ob on s t Example run = inr (some_command files words Bare (run.cause tt))
+-- the status where no command has the words
+no_words : (files : Files) (words : List Word) (before now : ℕ) (status : Status) → Shown files words before now status → (status ≡ statuses.Words) ⊎ IsSomeCommand words
+no_words files words before now status (Way e h m) = inr (some_command files words e h)
+no_words files words before now status (NoMemory is some) = inr some
+no_words files words before now status (NoWords is none) = inl is
+no_words files words before now status (Risen is rose some) = inr some
 
-pub words_alone : (files : Files) (words : List Word) (before now out_before out_now : ℕ) (sent sent_now : Option (List ℕ)) (status : Status)
-    → Run files words before now out_before out_now sent sent_now status → (status ≡ Words) ↔ IsNoCommand words
-words_alone files words before now ob on s t status run = (
-  (λ e. subst (λ status. IsSilent status → IsCause files words before now status) e run.cause tt),
-  (λ none. ⊎_elim (λ e. e) (λ c. absurd (none c.0 c.1)) (has_command files words before now ob on s t status run)),
-)
+words_none : (files : Files) (words : List Word) (before now : ℕ) (status : Status) → Shown files words before now status → status ≡ statuses.Words → IsNoCommand words
+words_none files words before now status (Way Faults h m) e = let c = sym m ∙ e in cc
+words_none files words before now status (Way Past h m) e = let c = sym m ∙ e in cc
+words_none files words before now status (Way Missing h m) e = let c = sym m ∙ e in cc
+words_none files words before now status (Way Bare h m) e = let c = sym m ∙ e in cc
+words_none files words before now status (Way Asked h (inl m)) e = let c = sym m ∙ e in cc
+words_none files words before now status (Way Asked h (inr (inl m))) e = let c = sym m ∙ e in cc
+words_none files words before now status (Way Asked h (inr (inr m))) e = let c = sym m ∙ e in cc
+words_none files words before now status (NoMemory is some) e = let c = sym is ∙ e in cc
+words_none files words before now status (NoWords is none) e = none
+words_none files words before now status (Risen is rose some) e = let c = sym is ∙ e in cc
+
+pub words_alone : (files : Files) (words : List Word) (before now out_before out_now : ℕ) (sent sent_now : Option (List ℕ)) (outcome : Outcome)
+    → Run files words before now out_before out_now sent sent_now outcome → (status : Status) → status ≡ outcome_status outcome → (status ≡ statuses.Words) ↔ IsNoCommand words
+words_alone files words before now ob on s t outcome run status is =
+    let k = shown files words before now ob on s t outcome run in
+    (λ e. words_none files words before now (outcome_status outcome) k (sym is ∙ e), λ none. ⊎_elim (λ e. is ∙ e) (λ c. absurd (none c.0 c.1)) (no_words files words before now (outcome_status outcome) k))
+
+-- the outcome of some statuses
+is_done : (outcome : Outcome) → outcome_status outcome ≡ statuses.Done → outcome ≡ outcomes.Done
+is_done outcomes.Done e = refl
+is_done outcomes.Refused e = cc
+is_done (outcomes.Failed refusals.Words) e = cc
+is_done (outcomes.Failed (refusals.Document role fault)) e = cc
+is_done (outcomes.Failed (refusals.Limit role count)) e = cc
+is_done (outcomes.Failed (refusals.ReadFault role)) e = cc
+is_done (outcomes.Failed refusals.WriteFault) e = cc
+is_done (outcomes.Failed refusals.Memory) e = cc
+is_done (outcomes.Failed refusals.Example) e = cc
+
+is_refused : (outcome : Outcome) → outcome_status outcome ≡ statuses.Refused → outcome ≡ outcomes.Refused
+is_refused outcomes.Done e = cc
+is_refused outcomes.Refused e = refl
+is_refused (outcomes.Failed refusals.Words) e = cc
+is_refused (outcomes.Failed (refusals.Document role fault)) e = cc
+is_refused (outcomes.Failed (refusals.Limit role count)) e = cc
+is_refused (outcomes.Failed (refusals.ReadFault role)) e = cc
+is_refused (outcomes.Failed refusals.WriteFault) e = cc
+is_refused (outcomes.Failed refusals.Memory) e = cc
+is_refused (outcomes.Failed refusals.Example) e = cc
+
+is_write_fault : (outcome : Outcome) → outcome_status outcome ≡ statuses.WriteFault → outcome ≡ outcomes.Failed refusals.WriteFault
+is_write_fault outcomes.Done e = cc
+is_write_fault outcomes.Refused e = cc
+is_write_fault (outcomes.Failed refusals.Words) e = cc
+is_write_fault (outcomes.Failed (refusals.Document role fault)) e = cc
+is_write_fault (outcomes.Failed (refusals.Limit role count)) e = cc
+is_write_fault (outcomes.Failed (refusals.ReadFault role)) e = cc
+is_write_fault (outcomes.Failed refusals.WriteFault) e = refl
+is_write_fault (outcomes.Failed refusals.Memory) e = cc
+is_write_fault (outcomes.Failed refusals.Example) e = cc
+
+is_example : (files : Files) (words : List Word) (before now : ℕ) (outcome : Outcome) → IsFailure files words before now outcome → outcome_status outcome ≡ statuses.Example → IsWithoutRow files words
+is_example files words before now outcomes.Done h e = cc
+is_example files words before now outcomes.Refused h e = cc
+is_example files words before now (outcomes.Failed refusals.Words) h e = cc
+is_example files words before now (outcomes.Failed (refusals.Document role fault)) h e = cc
+is_example files words before now (outcomes.Failed (refusals.Limit role count)) h e = cc
+is_example files words before now (outcomes.Failed (refusals.ReadFault role)) h e = cc
+is_example files words before now (outcomes.Failed refusals.WriteFault) h e = cc
+is_example files words before now (outcomes.Failed refusals.Memory) h e = cc
+is_example files words before now (outcomes.Failed refusals.Example) h e = cause_of files words before now refusals.Example h (λ e. cc)
+
+-- what `convert` writes
+converted_of : (files : Files) (words : List Word) (bytes : List ℕ) → IsSomeConvert words → IsDoneOutput files words bytes → IsConverted files words bytes
+converted_of files words bytes convert h =
+    ⊎_elim (λ k. absurd (not_both words k.1.asked.given.graph_name k.1.asked.given.wanted_name convert.0 k.1.asked.given.learn convert.1)) (λ k. k) h
+
+pub conversion : (files : Files) (words : List Word) (before now out_before out_now : ℕ) (sent sent_now : Option (List ℕ)) (outcome : Outcome)
+    → Run files words before now out_before out_now sent sent_now outcome → (status : Status) → status ≡ outcome_status outcome → IsSomeConvert words → IsConversion files words sent sent_now status
+conversion files words before now ob on s t outcome run status is convert = record {
+  done = λ e. let w = run.done (is_done outcome (sym is ∙ e)) in (w.0, converted_of files words w.0 convert w.1, w.2);
+  refused = λ e. let w = run.refused (is_refused outcome (sym is ∙ e)) in
+      not_both words w.1.1.asked.given.graph_name w.1.1.asked.given.wanted_name convert.0 w.1.1.asked.given.learn convert.1;
+  example = λ e. let h = is_example files words before now outcome run.failed (sym is ∙ e) in
+      not_both words h.2.graph_name h.2.wanted_name convert.0 h.2.learn convert.1;
+}
+
+-- what goes to `err`
+message_of : (files : Files) (words : List Word) (before now : ℕ) (refusal : Refusal) (Rises : Type 0) (sent sent_now : Option (List ℕ)) → IsReason files words before now refusal
+    → SendsLine Rises (err_line refusal) sent sent_now → IsMessage files words before now (status_of refusal) Rises sent sent_now
+message_of files words before now refusals.Words Rises s t h line = record { refusal = refusals.Words; status_is = refl; cause = h; line = line }
+message_of files words before now (refusals.Document role fault) Rises s t h line = record { refusal = refusals.Document role fault; status_is = refl; cause = h; line = line }
+message_of files words before now (refusals.Limit role count) Rises s t h line = record { refusal = refusals.Limit role count; status_is = refl; cause = h; line = line }
+message_of files words before now (refusals.ReadFault role) Rises s t h line = record { refusal = refusals.ReadFault role; status_is = refl; cause = h; line = line }
+message_of files words before now refusals.WriteFault Rises s t h line = record { refusal = refusals.WriteFault; status_is = refl; cause = h; line = line }
+message_of files words before now refusals.Memory Rises s t h line = record { refusal = refusals.Memory; status_is = refl; cause = h; line = line }
+message_of files words before now refusals.Example Rises s t h line = record { refusal = refusals.Example; status_is = refl; cause = h; line = line }
+
+pub message : (files : Files) (words : List Word) (before now : ℕ) (outcome : Outcome) (Rises : Type 0) (sent sent_now : Option (List ℕ)) → IsFailure files words before now outcome
+    → IsReport outcome Rises sent sent_now → IsMessage files words before now (outcome_status outcome) Rises sent sent_now
+message files words before now outcomes.Done Rises s t h report = report
+message files words before now outcomes.Refused Rises s t h report = report
+message files words before now (outcomes.Failed refusal) Rises s t h report = message_of files words before now refusal Rises s t h report
 
 -- what was written is of the graph and the table that are given
-query_of : (files : Files) (words : List Word) (graph : List Statement) (wanted : TableValue) (text : List ℕ) → IsTold files → IsAsked files words graph wanted
-    → IsLearnedText files words text → IsQueryText graph wanted text
-query_of files words graph wanted text told asked h =
-    let same = same_given files words h.graph graph h.wanted wanted told h.asked.given asked.given in
-    subst (λ (t : TableValue). IsQueryText graph t text) same.1 (subst (λ (g : List Statement). IsQueryText g h.wanted text) same.0 h.query)
+query_of : (files : Files) (words : List Word) (graph : List Statement) (wanted : TableValue) (bytes : List ℕ) → IsTold files → IsAsked files words graph wanted
+    → IsDoneOutput files words bytes → InUtf8 (IsQueryText graph wanted) bytes
+query_of files words graph wanted bytes told asked h =
+    ⊎_elim
+    (λ k.
+    let same = same_given files words k.1.graph graph k.1.wanted wanted told k.1.asked.given asked.given in
+    (k.0, subst (λ (t : TableValue). IsQueryText graph t k.0) same.1 (subst (λ (g : List Statement). IsQueryText g k.1.wanted k.0) same.0 k.1.query), k.2))
+    (λ k. absurd (not_both words asked.given.graph_name asked.given.wanted_name k.asked.graph_name asked.given.learn k.asked.convert))
+    h
 
-refusal_of : (files : Files) (words : List Word) (graph : List Statement) (wanted : TableValue) (text : List ℕ) → IsTold files → IsAsked files words graph wanted
-    → IsRefusalText files words text → IsRefusalLine graph wanted text
-refusal_of files words graph wanted text told asked h =
-    let same = same_given files words h.graph graph h.wanted wanted told h.asked.given asked.given in
-    subst (λ (t : TableValue). IsRefusalLine graph t text) same.1 (subst (λ (g : List Statement). IsRefusalLine g h.wanted text) same.0 h.refusal)
+refusal_of : (files : Files) (words : List Word) (graph : List Statement) (wanted : TableValue) (bytes : List ℕ) → IsTold files → IsAsked files words graph wanted
+    → IsRefusedOutput files words bytes → InUtf8 (IsRefusalLine graph wanted) bytes
+refusal_of files words graph wanted bytes told asked k =
+    let same = same_given files words k.1.graph graph k.1.wanted wanted told k.1.asked.given asked.given in
+    (k.0, subst (λ (t : TableValue). IsRefusalLine graph t k.0) same.1 (subst (λ (g : List Statement). IsRefusalLine g k.1.wanted k.0) same.0 k.1.refusal), k.2)
 
 -- where no count rose, a question has one of three ends
-asked_ends : (files : Files) (words : List Word) (before now out_before out_now : ℕ) (sent sent_now : Option (List ℕ)) (status : Status)
-    → Run files words before now out_before out_now sent sent_now status → IsQuiet files before now → (Rose out_before out_now → ⊥) → IsAskedCase files words
-    → (status ≡ Memory) ⊎ ((status ≡ Done) ⊎ (status ≡ Refused))
-asked_ends files words before now ob on s t status run quiet still case =
-    ⊎_elim (λ e. inl e)
-    (λ h. ⊎_elim (λ e. inr (inl e)) (λ h. ⊎_elim (λ e. inr (inr e)) (λ e. absurd (still (run.write_rose e))) h) h)
-    (settled files words before now ob on s t status run quiet Asked case)
+asked_ends : (files : Files) (words : List Word) (before now out_before out_now : ℕ) (sent sent_now : Option (List ℕ)) (outcome : Outcome)
+    → Run files words before now out_before out_now sent sent_now outcome → (status : Status) → status ≡ outcome_status outcome → IsQuiet files before now → (Rose out_before out_now → ⊥) → IsAskedCase files words
+    → (status ≡ statuses.Memory) ⊎ ((status ≡ statuses.Done) ⊎ (status ≡ statuses.Refused))
+asked_ends files words before now ob on s t outcome run status is quiet still case =
+    ⊎_elim
+    (λ h. ⊎_elim (λ e. inr (inl e)) (λ h. ⊎_elim (λ e. inr (inr e)) (λ e. absurd (still (run.write_rose (is_write_fault outcome (sym is ∙ e))))) h) h)
+    (λ e. inl e)
+    (settled files words before now ob on s t outcome run status is quiet Asked case)
 
-is_answered : (status : Status) → (status ≡ Memory) ⊎ ((status ≡ Done) ⊎ (status ≡ Refused)) → IsAnswered status
+is_answered : (status : Status) → (status ≡ statuses.Memory) ⊎ ((status ≡ statuses.Done) ⊎ (status ≡ statuses.Refused)) → IsAnswered status
 is_answered status h =
     ⊎_elim (λ e. subst IsAnswered (sym e) tt) (λ h. ⊎_elim (λ e. subst IsAnswered (sym e) tt) (λ e. subst IsAnswered (sym e) tt) h) h
 
-pub answered : (files : Files) (words : List Word) (before now out_before out_now : ℕ) (sent sent_now : Option (List ℕ)) (status : Status)
-    → Run files words before now out_before out_now sent sent_now status → IsQuiet files before now → (Rose out_before out_now → ⊥) → IsAskedCase files words → IsAnswered status
-answered files words before now ob on s t status run quiet still case =
-    is_answered status (asked_ends files words before now ob on s t status run quiet still case)
+pub answered : (files : Files) (words : List Word) (before now out_before out_now : ℕ) (sent sent_now : Option (List ℕ)) (outcome : Outcome)
+    → Run files words before now out_before out_now sent sent_now outcome → (status : Status) → status ≡ outcome_status outcome
+    → IsQuiet files before now → (Rose out_before out_now → ⊥) → IsAskedCase files words → IsAnswered status
+answered files words before now ob on s t outcome run status is quiet still case =
+    is_answered status (asked_ends files words before now ob on s t outcome run status is quiet still case)
 
-pub headline : (files : Files) (words : List Word) (before now out_before out_now : ℕ) (sent sent_now : Option (List ℕ)) (status : Status)
-    → Run files words before now out_before out_now sent sent_now status → Headline files words (Rose before now ⊎ Rose out_before out_now) sent sent_now status
-headline files words before now ob on s t status run told graph wanted asked =
-    let ends : ((Rose before now ⊎ Rose ob on) → ⊥) → (status ≡ Memory) ⊎ ((status ≡ Done) ⊎ (status ≡ Refused)) =
-    λ still. asked_ends files words before now ob on s t status run (record { told = told; rose = λ r. still (inl r) }) (λ r. still (inr r)) (graph, wanted, asked) in
-    let query : status ≡ Done → Sends (IsQueryText graph wanted) s t = λ e. let w = run.done e in (w.0, query_of files words graph wanted w.0 told asked w.1, w.2) in
-    let line : status ≡ Refused → Sends (IsRefusalLine graph wanted) s t = λ e. let w = run.refused e in (w.0, refusal_of files words graph wanted w.0 told asked w.1, w.2) in
-    let right : status ≡ Done → NoneFits graph wanted → ⊥ = λ e none. let w = query e in none w.1.query w.1.learned.in_class w.1.learned.fits in
-    let justified : status ≡ Refused → NoneFits graph wanted = λ e. (line e).1.refused.none in
+pub headline : (files : Files) (words : List Word) (before now out_before out_now : ℕ) (sent sent_now : Option (List ℕ)) (outcome : Outcome)
+    → Run files words before now out_before out_now sent sent_now outcome → (status : Status) → status ≡ outcome_status outcome
+    → Headline files words (Rose before now ⊎ Rose out_before out_now) sent sent_now status
+headline files words before now ob on s t outcome run status is told graph wanted asked =
+    let ends : ((Rose before now ⊎ Rose ob on) → ⊥) → (status ≡ statuses.Memory) ⊎ ((status ≡ statuses.Done) ⊎ (status ≡ statuses.Refused)) =
+    λ still. asked_ends files words before now ob on s t outcome run status is (record { told = told; rose = λ r. still (inl r) }) (λ r. still (inr r)) (inl (graph, wanted, asked)) in
+    let query : status ≡ statuses.Done → Sends (InUtf8 (IsQueryText graph wanted)) s t =
+    λ e. let w = run.done (is_done outcome (sym is ∙ e)) in (w.0, query_of files words graph wanted w.0 told asked w.1, w.2) in
+    let line : status ≡ statuses.Refused → Sends (InUtf8 (IsRefusalLine graph wanted)) s t =
+    λ e. let w = run.refused (is_refused outcome (sym is ∙ e)) in (w.0, refusal_of files words graph wanted w.0 told asked w.1, w.2) in
+    let right : status ≡ statuses.Done → NoneFits graph wanted → ⊥ = λ e none. let w = query e in none w.1.1.query w.1.1.learned.in_class w.1.1.learned.fits in
+    let justified : status ≡ statuses.Refused → NoneFits graph wanted = λ e. (line e).1.1.refused.none in
     record {
       answered = λ still. is_answered status (ends still);
       done = query;
@@ -182,7 +248,3 @@ headline files words before now ob on s t status run told graph wanted asked =
       none = λ still none. ⊎_elim (λ e. inr e) (λ h. ⊎_elim (λ e. absurd (right e none)) (λ e. inl e) h) (ends still);
       some = λ still some. ⊎_elim (λ e. inr e) (λ h. ⊎_elim (λ e. inl e) (λ e. absurd (some (justified e))) h) (ends still);
     }
-
-pub exactly : (files : Files) (words : List Word) (before now out_before out_now : ℕ) (sent sent_now : Option (List ℕ)) (status : Status)
-    → Run files words before now out_before out_now sent sent_now status → IsQuiet files before now → (e : Ending) → Ends files words e → Matches e status ⊎ (status ≡ Memory)
-exactly files words before now ob on s t status run quiet e h = swapped (settled files words before now ob on s t status run quiet e h)

@@ -5,46 +5,77 @@ use Rattle.bye_io.specs.Files.{Lacks}
 use Rattle.bye_terms.specs.Terms.{Statement}
 use Rattle.bye_pattern.specs.Tables.{TableValue}
 use Rattle.bye_cli.specs.Words.{Word, Command, IsCommand, IsNoCommand, IsSomeCommand}
-use Rattle.bye_cli.specs.Documents.{Files, IsTold, Document, due, Verdict, TooLong, Faulty, HasVerdict, Reaches, Stops}
+use Rattle.bye_cli.specs.Documents.{Files, IsTold, Document, due, Verdict, TooMany, Faulty, HasVerdict, Reaches, Stops}
 use Rattle.bye_cli.specs.Problem.{IsGiven, IsAsked}
-use Rattle.bye_cli.specs.declared.status.Status.{Status}
-use Rattle.bye_cli.specs.declared.status.Status.TheVariants as statuses
+use Rattle.bye_cli.specs.Converting.{IsConvertible}
+use Rattle.bye_cli.specs.declared.outcome.Outcome.{Outcome}
+use Rattle.bye_cli.specs.declared.outcome.Outcome.TheVariants as outcomes
+use Rattle.bye_cli.specs.declared.refusal.Role.{Role}
+use Rattle.bye_cli.specs.declared.refusal.Fault.{Fault}
+use Rattle.bye_cli.specs.declared.refusal.Count.{Count}
+use Rattle.bye_cli.specs.declared.refusal.Refusal.{Refusal}
+use Rattle.bye_cli.specs.declared.refusal.Refusal.TheVariants as refusals
 
--- a document of the command that is reached has this verdict
-abbrev pub IsStopped : Files → List Word → Verdict → Type 0
-IsStopped files words verdict = (command : Command) × IsCommand words command × Stops files (due command) verdict
+-- a document of the command that is read as this is reached, and has this verdict
+abbrev pub IsStopped : Files → List Word → Role → Verdict → Type 0
+IsStopped files words role verdict = (command : Command) × IsCommand words command × Stops files (due command) role verdict
+
+-- a document of the command that is reached is not of its form
+abbrev pub IsFaulty : Files → List Word → Type 0
+IsFaulty files words = (role : Role) × (fault : Fault) × IsStopped files words role (Faulty fault)
+
+-- a document of the command that is reached passes a limit
+abbrev pub IsPast : Files → List Word → Type 0
+IsPast files words = (role : Role) × (count : Count) × IsStopped files words role (TooMany count)
 
 -- the folder tells its files and lacks a document of the command that is reached
 abbrev pub IsMissing : Files → List Word → Type 0
 IsMissing files words = (command : Command) × IsCommand words command × ((d : Document) × Reaches files (due command) d × Lacks files d.1)
 
+-- a document of the command that is read as this is reached, and a call failed or the folder tells its files and lacks it
+pub record IsUnreadable (files : Files) (words : List Word) (before now : ℕ) (role : Role) : Type 0 where
+  pub command : Command
+  pub is : IsCommand words command
+  pub name : Word
+  pub reached : Reaches files (due command) (role, name)
+  pub cause : Rose before now ⊎ Lacks files name
+
 -- the documents are given, and there is no wanted row
 abbrev pub IsWithoutRow : Files → List Word → Type 0
 IsWithoutRow files words = (graph : List Statement) × (wanted : TableValue) × IsGiven files words graph wanted × (wanted.rows ≡ [])
 
--- why a document is not read: it is too long or not of its form, a call failed, or the folder lacks it
-abbrev pub IsUnread : Files → Document → ℕ → ℕ → Status → Type 0
-IsUnread files d before now statuses.Document = HasVerdict files d Faulty
-IsUnread files d before now statuses.Limit = HasVerdict files d TooLong
-IsUnread files d before now statuses.ReadFault = Rose before now ⊎ Lacks files d.1
-IsUnread files d before now statuses.Memory = ⊤
+-- why a document is not read: it passes a limit or is not of its form, a call failed, or the folder lacks it
+abbrev pub IsUnread : Files → Document → ℕ → ℕ → Refusal → Type 0
+IsUnread files d before now (refusals.Document role fault) = (d.0 ≡ role) × HasVerdict files d (Faulty fault)
+IsUnread files d before now (refusals.Limit role count) = (d.0 ≡ role) × HasVerdict files d (TooMany count)
+IsUnread files d before now (refusals.ReadFault role) = (d.0 ≡ role) × (Rose before now ⊎ Lacks files d.1)
+IsUnread files d before now refusals.Memory = ⊤
 IsUnread files d before now _ = ⊥
 
 -- why there is no answer
-abbrev pub IsCause : Files → List Word → ℕ → ℕ → Status → Type 0
-IsCause files words before now statuses.Words = IsNoCommand words
-IsCause files words before now statuses.Document = IsStopped files words Faulty
-IsCause files words before now statuses.Limit = IsStopped files words TooLong
-IsCause files words before now statuses.ReadFault = IsSomeCommand words × (Rose before now ⊎ IsMissing files words)
-IsCause files words before now statuses.Example = IsWithoutRow files words
-IsCause files words before now statuses.Memory = IsSomeCommand words
-IsCause files words before now _ = ⊥
+abbrev pub IsCause : Files → List Word → ℕ → ℕ → Refusal → Type 0
+IsCause files words before now refusals.Words = IsNoCommand words
+IsCause files words before now (refusals.Document role fault) = IsStopped files words role (Faulty fault)
+IsCause files words before now (refusals.Limit role count) = IsStopped files words role (TooMany count)
+IsCause files words before now (refusals.ReadFault role) = IsUnreadable files words before now role
+IsCause files words before now refusals.Example = IsWithoutRow files words
+IsCause files words before now refusals.Memory = IsSomeCommand words
+IsCause files words before now refusals.WriteFault = ⊥
+
+-- why a command fails: there is no answer, or it could not be written
+abbrev pub IsReason : Files → List Word → ℕ → ℕ → Refusal → Type 0
+IsReason files words before now refusal = IsCause files words before now refusal ⊎ ((refusal ≡ refusals.WriteFault) × IsSomeCommand words)
+
+abbrev pub IsFailure : Files → List Word → ℕ → ℕ → Outcome → Type 0
+IsFailure files words before now outcomes.Done = ⊤
+IsFailure files words before now outcomes.Refused = ⊤
+IsFailure files words before now (outcomes.Failed refusal) = IsReason files words before now refusal
 
 -- the folder tells its files, and its count of faults did not rise
 pub record IsQuiet (files : Files) (before now : ℕ) : Type 0 where
   pub told : IsTold files
   pub rose : Rose before now → ⊥
 
--- the documents are given, and there is a wanted row
+-- the documents are given, and to `learn` a wanted row
 abbrev pub IsAskedCase : Files → List Word → Type 0
-IsAskedCase files words = (graph : List Statement) × (wanted : TableValue) × IsAsked files words graph wanted
+IsAskedCase files words = ((graph : List Statement) × (wanted : TableValue) × IsAsked files words graph wanted) ⊎ ((graph : List Statement) × IsConvertible files words graph)

@@ -1,9 +1,15 @@
 -- The documents of a command, and what is to be said of their bytes.
 use Rattle.std.specs.Prelude.{◌≡◌, ℕ, ◌<◌, ◌≤◌, List, [], ◌∷◌, Option, Some, None, ⊤, length, ◌⊎◌, IsSomeAnd}
 use Rattle.bye_terms.specs.Terms.{Statement}
-use Rattle.bye_ntriples.specs.FirstForm.{IsFirstForm}
+use Rattle.bye_ntriples.specs.Answers.{IsGraph, IsSyntax, IsNotUtf8, Passes}
 use Rattle.bye_pattern.specs.Tables.{TableValue, IsFirstTable}
-use Rattle.bye_cli.specs.Words.{Word, Command, Learn}
+use Rattle.bye_cli.specs.Words.{Word, Command, Learn, Convert}
+use Rattle.bye_cli.specs.declared.refusal.Role.{Role}
+use Rattle.bye_cli.specs.declared.refusal.Role.TheVariants.{Graph, Wanted}
+use Rattle.bye_cli.specs.declared.refusal.Fault.{Fault}
+use Rattle.bye_cli.specs.declared.refusal.Fault.TheVariants as faults
+use Rattle.bye_cli.specs.declared.refusal.Count.{Count}
+use Rattle.bye_cli.specs.declared.refusal.Count.TheVariants as counts
 
 -- what a folder tells of its files: the bytes of each name
 abbrev pub Files : Type 0
@@ -24,18 +30,14 @@ abbrev pub IsTold : Files → Type 0
 IsTold None = ⊥
 IsTold (Some files) = ⊤
 
--- what a document is read as
-pub data Role : Type 0 where
-  Graph : Role
-  Wanted : Role
-
--- a document: its role and its name
+-- a document: what it is read as, and its name
 abbrev pub Document : Type 0
 Document = Role × Word
 
 -- the documents of a command, in the order in which they are read
 abbrev pub due : Command → List Document
 due (Learn graph wanted) = (Graph, graph) ∷ (Wanted, wanted) ∷ []
+due (Convert graph) = (Graph, graph) ∷ []
 
 -- the greatest number of bytes of a document
 abbrev pub limit_of : Role → ℕ
@@ -49,20 +51,35 @@ pub data Value : Type 0 where
 
 -- the bytes are a document of the role's form, and say this
 abbrev pub Says : Role → List ℕ → Value → Type 0
-Says Graph bytes (Triples triples) = IsFirstForm bytes triples
+Says Graph bytes (Triples triples) = IsGraph bytes triples
 Says Graph bytes (Rows table) = ⊥
 Says Wanted bytes (Triples triples) = ⊥
 Says Wanted bytes (Rows table) = IsFirstTable bytes table
 
--- the verdict on a document's bytes: they pass the limit, they are not of the form, or they say a value
+-- the bytes are not of the role's form: a graph stops being one at a place before too many triples, and a table is none
+abbrev pub Fails : Role → List ℕ → Fault → Type 0
+Fails Graph bytes (faults.Syntax place) = IsSyntax bytes place
+Fails Graph bytes (faults.NotUtf8 place) = IsNotUtf8 bytes place
+Fails Graph bytes faults.NotFirstForm = ⊥
+Fails Wanted bytes (faults.Syntax place) = ⊥
+Fails Wanted bytes (faults.NotUtf8 place) = ⊥
+Fails Wanted bytes faults.NotFirstForm = (table : TableValue) → IsFirstTable bytes table → ⊥
+
+-- the bytes are more than the role's limit; or they are not, and are a graph that has too many triples before any fault
+abbrev pub HasTooMany : Role → List ℕ → Count → Type 0
+HasTooMany role bytes counts.Bytes = limit_of role < length bytes
+HasTooMany Graph bytes counts.Triples = (length bytes ≤ limit_of Graph) × Passes bytes
+HasTooMany Wanted bytes counts.Triples = ⊥
+
+-- the verdict on a document's bytes: they pass a limit, they are not of the form, or they say a value
 pub data Verdict : Type 0 where
-  TooLong : Verdict
-  Faulty : Verdict
+  TooMany : Count → Verdict
+  Faulty : Fault → Verdict
   Good : Value → Verdict
 
 abbrev pub IsVerdict : Role → List ℕ → Verdict → Type 0
-IsVerdict role bytes TooLong = limit_of role < length bytes
-IsVerdict role bytes Faulty = (length bytes ≤ limit_of role) × ((value : Value) → Says role bytes value → ⊥)
+IsVerdict role bytes (TooMany count) = HasTooMany role bytes count
+IsVerdict role bytes (Faulty fault) = (length bytes ≤ limit_of role) × Fails role bytes fault
 IsVerdict role bytes (Good value) = (length bytes ≤ limit_of role) × Says role bytes value
 
 -- the verdict on the bytes that the document has
@@ -76,8 +93,8 @@ abbrev pub Reaches : Files → List Document → Document → Type 0
 Reaches files [] e = ⊥
 Reaches files (d ∷ ds) e = (d ≡ e) ⊎ ((value : Value) × HasVerdict files d (Good value) × Reaches files ds e)
 
--- some document of these is reached and has this verdict
-pub record Stops (files : Files) (ds : List Document) (verdict : Verdict) : Type 0 where
-  pub at : Document
-  pub reached : Reaches files ds at
-  pub has : HasVerdict files at verdict
+-- some document of these that is read as this is reached, and has this verdict
+pub record Stops (files : Files) (ds : List Document) (role : Role) (verdict : Verdict) : Type 0 where
+  pub name : Word
+  pub reached : Reaches files ds (role, name)
+  pub has : HasVerdict files (role, name) verdict

@@ -8,7 +8,7 @@ use Rattle.bye_pattern.specs.Tables.{TableValue}
 use Rattle.bye_cli.specs.Words.{Word}
 use Rattle.bye_cli.specs.Documents.{Files, IsTold}
 use Rattle.bye_cli.specs.Problem.{IsAsked, IsQueryText, IsRefusalLine}
-use Rattle.bye_cli.specs.Statuses.{IsAnswered, Sends}
+use Rattle.bye_cli.specs.Statuses.{IsAnswered, InUtf8, Sends}
 use Rattle.bye_cli.specs.declared.status.Status.{Status}
 use Rattle.bye_cli.specs.declared.status.Status.TheVariants.{Done, Refused, Memory}
 
@@ -21,9 +21,9 @@ pub record IsOutcome (graph : List Statement) (wanted : TableValue) (Rose : Type
   -- where no count rose, the question is answered, or memory was refused
   pub answered : (Rose → ⊥) → IsAnswered status
   -- on Done the text of a query of the class was appended of which every wanted row is an answer
-  pub done : status ≡ Done → Sends (IsQueryText graph wanted) before now
+  pub done : status ≡ Done → Sends (InUtf8 (IsQueryText graph wanted)) before now
   -- on Refused the line of the first variable in no common pattern was appended, and no query of the class fits
-  pub refused : status ≡ Refused → Sends (IsRefusalLine graph wanted) before now × NoneFits graph wanted
+  pub refused : status ≡ Refused → Sends (InUtf8 (IsRefusalLine graph wanted)) before now × NoneFits graph wanted
   -- Done comes only where some query of the class fits
   pub right : status ≡ Done → NoneFits graph wanted → ⊥
   -- where no count rose, Refused comes wherever no query of the class fits

@@ -1,6 +1,10 @@
 pub mod Words
+pub mod Commands
 pub mod Documents
 pub mod Problem
 pub mod Statuses
 pub mod Causes
+pub mod Refusals
 pub mod Headline
+pub mod Messages
+pub mod Converting

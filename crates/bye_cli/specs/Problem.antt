@@ -1,6 +1,7 @@
--- What `learn` is asked and what it writes.
+-- What `learn` is asked and what it writes, and what a command writes.
 use Rattle.std.specs.Prelude.{◌≡◌, ℕ, ◌<◌, List, ◌++◌, ◌⊎◌, length, codes}
 use Rattle.std.specs.List.{AllByRecursion}
+use Rattle.std.specs.Str.{encode_utf8_all}
 use Rattle.bye_terms.specs.Terms.{Statement, IsTriple}
 use Rattle.bye_pattern.specs.Mappings.{Name}
 use Rattle.bye_pattern.specs.Trees.{Select}
@@ -8,7 +9,12 @@ use Rattle.bye_pattern.specs.Printed.{query_text}
 use Rattle.bye_pattern.specs.Tables.{TableValue}
 use Rattle.bye_pattern.specs.Learning.{wanted_of, AreFull, IsLearnedQuery, IsJustRefused}
 use Rattle.bye_cli.specs.Words.{Word, IsLearn}
-use Rattle.bye_cli.specs.Documents.{Files, Graph, Wanted, Triples, Rows, Good, HasVerdict}
+use Rattle.bye_cli.specs.Documents.{Files, Triples, Rows, Good, HasVerdict}
+use Rattle.bye_cli.specs.Converting.{IsConverted}
+use Rattle.bye_cli.specs.Statuses.{InUtf8}
+use Rattle.bye_cli.specs.declared.refusal.Role.TheVariants.{Graph, Wanted}
+use Rattle.bye_cli.specs.declared.outcome.Outcome.{Outcome}
+use Rattle.bye_cli.specs.declared.outcome.Outcome.TheVariants as outcomes
 use Rattle.bye_cli.specs.declared.answer.Answer.{Answer}
 use Rattle.bye_cli.specs.declared.answer.Answer.TheVariants as answers
 
@@ -53,14 +59,23 @@ pub record IsRefusalText (files : Files) (words : List Word) (text : List ℕ) :
   pub asked : IsAsked files words graph wanted
   pub refusal : IsRefusalLine graph wanted text
 
+-- what is written on Done: the text of the learned query, or the converted document
+abbrev pub IsDoneOutput : Files → List Word → List ℕ → Type 0
+IsDoneOutput files words bytes = InUtf8 (IsLearnedText files words) bytes ⊎ IsConverted files words bytes
+
+-- what is written on Refused
+abbrev pub IsRefusedOutput : Files → List Word → List ℕ → Type 0
+IsRefusedOutput files words bytes = InUtf8 (IsRefusalText files words) bytes
+
 -- one of the two
-abbrev pub IsOutputText : Files → List Word → List ℕ → Type 0
-IsOutputText files words text = IsLearnedText files words text ⊎ IsRefusalText files words text
+abbrev pub IsOutput : Files → List Word → List ℕ → Type 0
+IsOutput files words bytes = IsDoneOutput files words bytes ⊎ IsRefusedOutput files words bytes
 
 -- what is to be written of a graph and a table
 abbrev pub IsWritten : List Statement → TableValue → Answer → Type 0
 IsWritten graph wanted (answers.Query text) = IsQueryText graph wanted text
 IsWritten graph wanted (answers.Refusal text) = IsRefusalLine graph wanted text
+IsWritten graph wanted (answers.Document bytes) = ⊥
 
 -- its triples have subjects and predicates, and its rows bind exactly the variables of the header
 pub record IsRead (graph : List Statement) (wanted : TableValue) : Type 0 where
@@ -71,3 +86,16 @@ pub record IsRead (graph : List Statement) (wanted : TableValue) : Type 0 where
 abbrev pub IsAnswer : Files → List Word → Answer → Type 0
 IsAnswer files words (answers.Query text) = IsLearnedText files words text
 IsAnswer files words (answers.Refusal text) = IsRefusalText files words text
+IsAnswer files words (answers.Document bytes) = IsConverted files words bytes.items
+
+-- the bytes that are written, texts in UTF-8
+abbrev pub output_of : Answer → List ℕ
+output_of (answers.Query text) = encode_utf8_all text
+output_of (answers.Refusal text) = encode_utf8_all text
+output_of (answers.Document bytes) = bytes.items
+
+-- how a command ends that has written it
+abbrev pub outcome_of : Answer → Outcome
+outcome_of (answers.Query text) = outcomes.Done
+outcome_of (answers.Refusal text) = outcomes.Refused
+outcome_of (answers.Document bytes) = outcomes.Done

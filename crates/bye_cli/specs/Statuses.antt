@@ -1,10 +1,12 @@
 -- What the statuses say of the output.
-use Rattle.std.specs.Prelude.{ℕ, List, Option, ⊤}
+use Rattle.std.specs.Prelude.{◌≡◌, ℕ, List, Option, ⊤}
 use Rattle.std.specs.Str.{encode_utf8_all}
 use Rattle.std.specs.Io.KnownBytes.{Appends}
 use Rattle.bye_io.specs.Bytes.{AppendsPart}
-use Rattle.bye_io.specs.declared.fault.ReadErr.{ReadErr}
-use Rattle.bye_io.specs.declared.fault.ReadErr.TheVariants as errors
+use Rattle.bye_cli.specs.declared.refusal.Refusal.{Refusal}
+use Rattle.bye_cli.specs.declared.refusal.Refusal.TheVariants as refusals
+use Rattle.bye_cli.specs.declared.outcome.Outcome.{Outcome}
+use Rattle.bye_cli.specs.declared.outcome.Outcome.TheVariants as outcomes
 use Rattle.bye_cli.specs.declared.status.Status.{Status}
 use Rattle.bye_cli.specs.declared.status.Status.TheVariants as statuses
 
@@ -15,13 +17,17 @@ IsSilent statuses.Refused = ⊥
 IsSilent statuses.WriteFault = ⊥
 IsSilent _ = ⊤
 
--- a text of this kind was appended whole, in UTF-8
-abbrev pub Sends : (List ℕ → Type 0) → Option (List ℕ) → Option (List ℕ) → Type 0
-Sends Kind before now = (text : List ℕ) × Kind text × Appends before now (encode_utf8_all text)
+-- the bytes are the UTF-8 of a text of this kind
+abbrev pub InUtf8 : (List ℕ → Type 0) → List ℕ → Type 0
+InUtf8 Kind bytes = (text : List ℕ) × Kind text × (bytes ≡ encode_utf8_all text)
 
--- a front part of a text of this kind was appended that is not all of it
+-- bytes of this kind were appended whole
+abbrev pub Sends : (List ℕ → Type 0) → Option (List ℕ) → Option (List ℕ) → Type 0
+Sends Kind before now = (bytes : List ℕ) × Kind bytes × Appends before now bytes
+
+-- a front part of bytes of this kind was appended that is not all of them
 abbrev pub SendsPart : (List ℕ → Type 0) → Option (List ℕ) → Option (List ℕ) → Type 0
-SendsPart Kind before now = (text : List ℕ) × Kind text × AppendsPart before now (encode_utf8_all text)
+SendsPart Kind before now = (bytes : List ℕ) × Kind bytes × AppendsPart before now bytes
 
 -- a status at which the question was answered, or memory was refused
 abbrev pub IsAnswered : Status → Type 0
@@ -30,8 +36,18 @@ IsAnswered statuses.Refused = ⊤
 IsAnswered statuses.Memory = ⊤
 IsAnswered _ = ⊥
 
--- the status of a document that could not be read
-abbrev pub status_of : ReadErr → Status
-status_of errors.TooLong = statuses.Limit
-status_of errors.Failed = statuses.ReadFault
-status_of errors.Memory = statuses.Memory
+-- the status of a refusal
+abbrev pub status_of : Refusal → Status
+status_of refusals.Words = statuses.Words
+status_of (refusals.Document role fault) = statuses.Document
+status_of (refusals.Limit role count) = statuses.Limit
+status_of (refusals.ReadFault role) = statuses.ReadFault
+status_of refusals.WriteFault = statuses.WriteFault
+status_of refusals.Memory = statuses.Memory
+status_of refusals.Example = statuses.Example
+
+-- the status of an outcome
+abbrev pub outcome_status : Outcome → Status
+outcome_status outcomes.Done = statuses.Done
+outcome_status outcomes.Refused = statuses.Refused
+outcome_status (outcomes.Failed refusal) = status_of refusal

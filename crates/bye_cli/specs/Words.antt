@@ -23,6 +23,7 @@ pub record IsCommandLine (words : List Word) (command : Word) (known : List Word
 -- a command, with the names of its documents
 pub data Command : Type 0 where
   Learn : Word → Word → Command
+  Convert : Word → Command
 
 -- `learn` with `--graph FILE` and `--wanted FILE`
 pub record IsLearn (words : List Word) (graph wanted : Word) : Type 0 where
@@ -31,9 +32,16 @@ pub record IsLearn (words : List Word) (graph wanted : Word) : Type 0 where
   pub graph_named : In settings (codes "--graph", graph)
   pub wanted_named : In settings (codes "--wanted", wanted)
 
+-- `convert` with `--graph FILE`
+pub record IsConvert (words : List Word) (graph : Word) : Type 0 where
+  pub settings : List Setting
+  pub line : IsCommandLine words (codes "convert") (codes "--graph" ∷ []) settings
+  pub graph_named : In settings (codes "--graph", graph)
+
 -- the words are those of the command
 abbrev pub IsCommand : List Word → Command → Type 0
 IsCommand words (Learn graph wanted) = IsLearn words graph wanted
+IsCommand words (Convert graph) = IsConvert words graph
 
 -- no command has these words
 abbrev pub IsNoCommand : List Word → Type 0
@@ -42,3 +50,7 @@ IsNoCommand words = (command : Command) → IsCommand words command → ⊥
 -- some command has these words
 abbrev pub IsSomeCommand : List Word → Type 0
 IsSomeCommand words = (command : Command) × IsCommand words command
+
+-- the words are those of some `convert`
+abbrev pub IsSomeConvert : List Word → Type 0
+IsSomeConvert words = (graph : Word) × IsConvert words graph

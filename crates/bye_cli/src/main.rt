@@ -1,45 +1,52 @@
-//! The program: what `learn` finds in a graph for a table of wanted rows.
+//! The program: what `learn` finds in a graph for a table of wanted rows, and a graph as `convert` writes it.
 #![tactic(auto)]
 
 mod answer;
+mod converting;
 mod document;
+mod learning;
+mod line;
+mod message;
+mod outcome;
 mod program;
+mod refusal;
 mod status;
 #[cfg(test)]
 mod tests;
 mod words;
 
 use bye_io::{RealErr, RealFolder, RealOut};
-use bye_terms::Text;
+use bye_terms::{Memory, Text, keep};
 use program::run_program;
 use status::Status;
+use std::alloc::Global;
 use std::io::ErrorKind;
 use std::process::ExitCode;
 use std::{env, io};
 
-/// The status where the system gave no words: memory was refused for them, or one is no UTF-8.
-fn without_words(kind: ErrorKind) -> Status {
-    match kind {
-        ErrorKind::OutOfMemory => Status::Memory,
-        _ => Status::Words,
+/// The words that were given; none, where one is no UTF-8.
+fn given(rt: &HostRuntime, alloc: Global) -> Result<Vec<Text>, Memory> {
+    let mut words = Vec::new(alloc);
+    let args = match env::args(rt) {
+        Ok(args) => args,
+        Err(err) => {
+            return match err.kind() {
+                ErrorKind::OutOfMemory => Err(Memory),
+                _ => Ok(words),
+            };
+        }
+    };
+    for arg in args.skip(1) {
+        keep(&mut words, Text::copy_of(alloc, arg.as_str())?)?;
     }
+    Ok(words)
 }
 
 fn main(rt: HostRuntime) -> ExitCode {
     let alloc = rt.alloc();
-    let mut words = Vec::new(alloc);
-    let args = match env::args(&rt) {
-        Ok(args) => args,
-        Err(err) => return ExitCode::from(without_words(err.kind()) as u8),
+    let Ok(words) = given(&rt, alloc) else {
+        return ExitCode::from(Status::Memory as u8);
     };
-    for arg in args.skip(1) {
-        let Ok(word) = Text::copy_of(alloc, arg.as_str()) else {
-            return ExitCode::from(Status::Memory as u8);
-        };
-        if words.push(word).is_err() {
-            return ExitCode::from(Status::Memory as u8);
-        }
-    }
     let mut folder = RealFolder::new(&rt);
     let mut out = RealOut::new(io::writer(&rt));
     let stderr = rt.stderr();

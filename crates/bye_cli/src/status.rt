@@ -1,5 +1,3 @@
-use bye_terms::Memory;
-
 /// How the program ended.
 #[derive(Debug, Clone, Copy, PartialEq, Eq)]
 pub enum Status {
@@ -11,7 +9,7 @@ pub enum Status {
     Words = 2,
     /// A document is not of its form.
     Document = 3,
-    /// A document is longer than its limit.
+    /// A document has more bytes or triples than its limit.
     Limit = 4,
     /// A document could not be read.
     ReadFault = 5,
@@ -21,15 +19,4 @@ pub enum Status {
     Memory = 7,
     /// There is no wanted row.
     Example = 9,
-}
-
-impl From<Memory> for Status {
-    ghost use Rattle.bye_cli.specs.declared.status.Status.TheVariants as statuses;
-    ghost use Rattle.std.specs.Prelude.{◌≡◌};
-
-    ghost from_gives = { λ _ status. status ≡ statuses.Memory };
-
-    fn from(_: Memory) -> Self {
-        Status::Memory
-    }
 }

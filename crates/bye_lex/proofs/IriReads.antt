@@ -48,7 +48,7 @@ after_letter (c ∷ cs) value (k, each) h = or_second _ _ (and_true _ _ k (after
 scheme_is : (x : Bool) (text value : List ℕ) → IriScheme x text value → is_after_letter value ≡ true
 scheme_is x text value h = ap is_after_letter h.stands ∙ after_letter h.scheme h.tail_value h.each (tail_chars x h.tail h.tail_value h.after)
 
-token_is : (x : Bool) (text value : List ℕ) → IriToken x text value → is_iri value ≡ true
+pub token_is : (x : Bool) (text value : List ℕ) → IriToken x text value → is_iri value ≡ true
 token_is x text value h = ap is_iri h.after.stands ∙ and_true _ _ h.after.letter (scheme_is x h.after.rest h.after.rest_value h.after.after)
 
 value_is : (escapes : Bool) (from : ℕ) (text : List ℕ) (r : Result (List ℕ × ℕ) LexErr) → Reads (IriToken escapes) text from r → IfOk r (λ o. is_iri o.0 ≡ true)

@@ -18,3 +18,7 @@ pub mod Ends
 pub mod OneAnswer
 pub mod ReadingBack
 pub mod OneTerm
+pub mod Utf8Laws
+pub mod LabelParts
+pub mod Encodings
+pub mod Beginnings

@@ -14,3 +14,4 @@ pub mod Laws
 pub mod Ends
 pub mod Written
 pub mod ReadingBack
+pub mod Utf8

@@ -1,11 +1,24 @@
-//! Graph documents, read into triples.
+//! Graph documents, read into triples and written.
 #![tactic(auto)]
 
+mod document;
 mod fault;
+mod keys;
 mod laws;
 mod line;
+mod pieces;
 mod reader;
+mod subject;
+mod token;
+mod writer;
 
 pub use fault::NtErr;
-pub use laws::one_reading;
+pub use laws::{canonical_reads_back, documents_have_statements, one_answer, one_canonical};
+pub use pieces::NtReader;
 pub use reader::read_triples;
+pub use writer::write_triples;
+
+#[cfg(test)]
+mod tests;
+#[cfg(test)]
+mod writer_tests;

@@ -1,53 +1,465 @@
-ghost use Rattle.std.specs.Prelude.{◌≡◌, IfOk};
-ghost use Rattle.std.specs.Option.{option_map};
-ghost use Rattle.bye_ntriples.specs.Reading.{spaced_iri_at, line_at, three_iris};
+//! The machine of lines: how far a line was read, and what one more character makes of that.
 
-use bye_terms::{Cursor, Iri, Memory, Term, Triple, raw_iri};
+ghost use Rattle.bye_ntriples.specs.Lines as lines;
+ghost use Rattle.bye_ntriples.specs.LineSteps as spec;
+ghost use Rattle.bye_ntriples.specs.Triples.{triple_of, string_of, tagged_of};
+ghost use Rattle.bye_lex.specs.MarkSteps as marks;
+ghost use Rattle.std.specs.Prelude.{◌≡◌, IfOk, true};
+
+use crate::subject::{Parts, Subject};
+use crate::token::{IriReading, IriStep, LabelReading, TagReading};
+use bye_lex::{StringAt, Style, string_step};
+use bye_terms::{Iri, Label, Literal, Memory, Term, Text};
 use std::alloc::Global;
 
-/// Reads a raw IRI and the space after it. Where they do not stand there, what is left is open.
-#[tactic(auto, unfolding(crate::specs::Reading::spaced_iri_at))]
-fn spaced_iri(alloc: Global, rest: &mut Cursor<'_>) -> Result<Option<Iri>, Memory>
-    ensures { IfOk result (λ o. option_map (λ iri. (iri, rest.new)) o ≡ spaced_iri_at rest.old) }
-{
-    let Some(iri) = raw_iri(alloc, rest)? else {
-        return Ok(None);
-    };
-    if !rest.take(' ') {
-        return Ok(None);
-    }
-    Ok(Some(iri))
+/// How far a subject was read.
+#[derive(Debug, Drop)]
+pub enum SubjectAt {
+    Iri(IriReading),
+    Label(LabelReading),
 }
 
-fn triple(s: Iri, p: Iri, o: Iri) -> Triple
-    ensures { result ≡ three_iris s p o }
+/// How far an object was read.
+#[derive(Debug, Drop)]
+pub enum ObjectAt {
+    Iri(IriReading),
+    Label(LabelReading),
+    /// After a label and a dot, which may belong to it or end the triple.
+    Dot(Label),
+    String(StringAt),
+}
+
+/// How far that was read which may stand after a string.
+#[derive(Debug, Drop)]
+pub enum SuffixAt {
+    /// Nothing, or spaces.
+    Start,
+    Tag(TagReading),
+    /// The first `^`.
+    Caret,
+    /// Both of them, and maybe spaces.
+    Carets,
+    Datatype(IriReading),
+}
+
+/// How far a line was read.
+#[derive(Debug, Drop)]
+pub enum LineAt {
+    /// At its beginning, or after spaces there.
+    Begin,
+    Subject(SubjectAt),
+    AfterSubject(Subject),
+    Predicate(Subject, IriReading),
+    AfterPredicate(Subject, Iri),
+    Object(Subject, Iri, ObjectAt),
+    /// After a string.
+    Suffix(Subject, Iri, Text, SuffixAt),
+    AfterObject(Parts),
+    /// After the dot.
+    Ended(Parts),
+    /// In a comment, with the triple that stands before it.
+    Comment(Option<Parts>),
+}
+
+/// A space or a TAB.
+pub fn is_space(c: char) -> bool
+    ensures { result ≡ lines.is_space c }
 {
-    Triple {
-        s: Term::Iri(s),
-        p: Term::Iri(p),
-        o: Term::Iri(o),
+    c == ' ' || c == '\t'
+}
+
+/// LF or CR.
+pub fn is_line_end(c: char) -> bool
+    ensures { result ≡ lines.is_line_end c }
+{
+    c == '\n' || c == '\r'
+}
+
+fn after_object(triple: Parts, c: char) -> Option<LineAt>
+    ensures { result ≡ spec.after_object triple c }
+{
+    if is_space(c) {
+        return Some(LineAt::AfterObject(triple));
+    }
+    if c == '.' {
+        return Some(LineAt::Ended(triple));
+    }
+    None
+}
+
+fn ended(triple: Parts, c: char) -> Option<LineAt>
+    ensures { result ≡ spec.ended triple c }
+{
+    if is_space(c) {
+        return Some(LineAt::Ended(triple));
+    }
+    if c == '#' {
+        return Some(LineAt::Comment(Some(triple)));
+    }
+    None
+}
+
+fn in_predicate(
+    alloc: Global,
+    s: Subject,
+    at: IriReading,
+    c: char,
+) -> Result<Option<LineAt>, Memory>
+    ensures { IfOk result (λ o. o ≡ spec.in_predicate s at c) }
+{
+    match at.step(alloc, c)? {
+        None => Ok(None),
+        Some(IriStep::Within(at)) => Ok(Some(LineAt::Predicate(s, at))),
+        Some(IriStep::Whole(p)) => Ok(Some(LineAt::AfterPredicate(s, p))),
     }
 }
 
-/// Reads the line at the front. Where none stands there, what is left is open.
-#[tactic(auto, unfolding(crate::specs::Reading::line_at))]
-pub fn line(alloc: Global, rest: &mut Cursor<'_>) -> Result<Option<Triple>, Memory>
-    ensures { IfOk result (λ o. option_map (λ t. (t, rest.new)) o ≡ line_at rest.old) }
+fn after_subject(alloc: Global, s: Subject, c: char) -> Result<Option<LineAt>, Memory>
+    ensures { IfOk result (λ o. o ≡ spec.after_subject s c) }
 {
-    let Some(s) = spaced_iri(alloc, rest)? else {
-        return Ok(None);
-    };
-    let Some(p) = spaced_iri(alloc, rest)? else {
-        return Ok(None);
-    };
-    let Some(o) = spaced_iri(alloc, rest)? else {
-        return Ok(None);
-    };
-    if !rest.take('.') {
-        return Ok(None);
+    if is_space(c) {
+        return Ok(Some(LineAt::AfterSubject(s)));
     }
-    if !rest.take('\n') {
-        return Ok(None);
+    in_predicate(alloc, s, IriReading::new(), c)
+}
+
+fn in_subject(alloc: Global, at: IriReading, c: char) -> Result<Option<LineAt>, Memory>
+    ensures { IfOk result (λ o. o ≡ spec.in_subject at c) }
+{
+    match at.step(alloc, c)? {
+        None => Ok(None),
+        Some(IriStep::Within(at)) => Ok(Some(LineAt::Subject(SubjectAt::Iri(at)))),
+        Some(IriStep::Whole(s)) => Ok(Some(LineAt::AfterSubject(Subject::iri(s)))),
     }
-    Ok(Some(triple(s, p, o)))
+}
+
+fn in_subject_label(alloc: Global, at: LabelReading, c: char) -> Result<Option<LineAt>, Memory>
+    ensures { IfOk result (λ o. o ≡ spec.in_subject_label at c) }
+{
+    if at.is_whole() && !at.takes(c) {
+        return after_subject(alloc, Subject::blank(at.into_label()), c);
+    }
+    match at.step(c)? {
+        None => Ok(None),
+        Some(at) => Ok(Some(LineAt::Subject(SubjectAt::Label(at)))),
+    }
+}
+
+/// A character that may begin a subject.
+fn subject(alloc: Global, c: char) -> Result<Option<LineAt>, Memory>
+    ensures { IfOk result (λ o. o ≡ spec.subject c) }
+{
+    if c == '<' {
+        return in_subject(alloc, IriReading::new(), c);
+    }
+    in_subject_label(alloc, LabelReading::new(alloc), c)
+}
+
+fn begin(alloc: Global, c: char) -> Result<Option<LineAt>, Memory>
+    ensures { IfOk result (λ o. o ≡ spec.begin c) }
+{
+    if is_space(c) {
+        return Ok(Some(LineAt::Begin));
+    }
+    if c == '#' {
+        return Ok(Some(LineAt::Comment(None)));
+    }
+    subject(alloc, c)
+}
+
+fn in_object(
+    alloc: Global,
+    s: Subject,
+    p: Iri,
+    at: IriReading,
+    c: char,
+) -> Result<Option<LineAt>, Memory>
+    ensures { IfOk result (λ o. o ≡ spec.in_object s p at c) }
+{
+    match at.step(alloc, c)? {
+        None => Ok(None),
+        Some(IriStep::Within(at)) => Ok(Some(LineAt::Object(s, p, ObjectAt::Iri(at)))),
+        Some(IriStep::Whole(o)) => Ok(Some(LineAt::AfterObject(Parts::new(s, p, Term::Iri(o))))),
+    }
+}
+
+/// Within the label of an object: after a whole label a dot may end the triple, and after two dots or more the label goes on.
+fn in_object_label(s: Subject, p: Iri, at: LabelReading, c: char) -> Result<Option<LineAt>, Memory>
+    ensures { IfOk result (λ o. o ≡ spec.in_object_label s p at c) }
+{
+    if at.is_whole() {
+        if c == '.' {
+            return Ok(Some(LineAt::Object(s, p, ObjectAt::Dot(at.into_label()))));
+        }
+        if !at.takes(c) {
+            return Ok(after_object(Parts::new(s, p, Term::Blank(at.into_label())), c));
+        }
+    }
+    match at.step(c)? {
+        None => Ok(None),
+        Some(at) => Ok(Some(LineAt::Object(s, p, ObjectAt::Label(at)))),
+    }
+}
+
+/// After a label and a dot: the label goes on, or the triple is ended.
+fn after_dot(s: Subject, p: Iri, label: Label, c: char) -> Result<Option<LineAt>, Memory>
+    ensures { IfOk result (λ o. o ≡ spec.after_dot s p label c) }
+{
+    if LabelReading::goes_on(c) {
+        let at = LabelReading::after_dot(label, c)?;
+        return Ok(Some(LineAt::Object(s, p, ObjectAt::Label(at))));
+    }
+    Ok(ended(Parts::new(s, p, Term::Blank(label)), c))
+}
+
+fn in_object_string(
+    alloc: Global,
+    s: Subject,
+    p: Iri,
+    at: StringAt,
+    c: char,
+) -> Result<Option<LineAt>, Memory>
+    ensures { IfOk result (λ o. o ≡ spec.in_object_string s p at c) }
+{
+    match string_step(alloc, at, c, Style::Triples)? {
+        None => Ok(None),
+        Some(StringAt::Done(text)) => Ok(Some(LineAt::Suffix(s, p, text, SuffixAt::Start))),
+        Some(at) => Ok(Some(LineAt::Object(s, p, ObjectAt::String(at)))),
+    }
+}
+
+fn object(alloc: Global, s: Subject, p: Iri, c: char) -> Result<Option<LineAt>, Memory>
+    ensures { IfOk result (λ o. o ≡ spec.object s p c) }
+{
+    if c == '<' {
+        return in_object(alloc, s, p, IriReading::new(), c);
+    }
+    if c == '"' {
+        return in_object_string(alloc, s, p, StringAt::Start, c);
+    }
+    in_object_label(s, p, LabelReading::new(alloc), c)
+}
+
+fn after_predicate(alloc: Global, s: Subject, p: Iri, c: char) -> Result<Option<LineAt>, Memory>
+    ensures { IfOk result (λ o. o ≡ spec.after_predicate s p c) }
+{
+    if is_space(c) {
+        return Ok(Some(LineAt::AfterPredicate(s, p)));
+    }
+    object(alloc, s, p, c)
+}
+
+fn string_triple(alloc: Global, s: Subject, p: Iri, lexical: Text) -> Result<Parts, Memory>
+    ensures { IfOk result (λ t. t ≡ triple_of s p (string_of lexical)) }
+{
+    let literal = Literal::string(alloc, lexical)?;
+    Ok(Parts::new(s, p, Term::Lit(literal)))
+}
+
+fn tagged_triple(
+    alloc: Global,
+    s: Subject,
+    p: Iri,
+    lexical: Text,
+    at: TagReading,
+) -> Result<Parts, Memory>
+    requires { marks.is_whole at.at ≡ true }
+    ensures { IfOk result (λ t. t ≡ triple_of s p (tagged_of lexical at.text)) }
+{
+    let literal = Literal::tagged(alloc, lexical, at.into_tag())?;
+    Ok(Parts::new(s, p, Term::Lit(literal)))
+}
+
+fn in_tag(
+    alloc: Global,
+    s: Subject,
+    p: Iri,
+    lexical: Text,
+    at: TagReading,
+    c: char,
+) -> Result<Option<LineAt>, Memory>
+    ensures { IfOk result (λ o. o ≡ spec.in_tag s p lexical at c) }
+{
+    if at.is_whole() && !at.takes(c) {
+        let triple = tagged_triple(alloc, s, p, lexical, at)?;
+        return Ok(after_object(triple, c));
+    }
+    match at.step(c)? {
+        None => Ok(None),
+        Some(at) => Ok(Some(LineAt::Suffix(s, p, lexical, SuffixAt::Tag(at)))),
+    }
+}
+
+fn after_string(
+    alloc: Global,
+    s: Subject,
+    p: Iri,
+    lexical: Text,
+    c: char,
+) -> Result<Option<LineAt>, Memory>
+    ensures { IfOk result (λ o. o ≡ spec.after_string s p lexical c) }
+{
+    if is_space(c) {
+        return Ok(Some(LineAt::Suffix(s, p, lexical, SuffixAt::Start)));
+    }
+    if c == '.' {
+        let triple = string_triple(alloc, s, p, lexical)?;
+        return Ok(Some(LineAt::Ended(triple)));
+    }
+    if c == '^' {
+        return Ok(Some(LineAt::Suffix(s, p, lexical, SuffixAt::Caret)));
+    }
+    in_tag(alloc, s, p, lexical, TagReading::new(alloc), c)
+}
+
+fn typed(s: Subject, p: Iri, lexical: Text, datatype: Iri) -> Option<LineAt>
+    ensures { result ≡ spec.typed s p lexical datatype }
+{
+    match Literal::typed(lexical, datatype) {
+        Some(literal) => Some(LineAt::AfterObject(Parts::new(s, p, Term::Lit(literal)))),
+        None => None,
+    }
+}
+
+fn in_datatype(
+    alloc: Global,
+    s: Subject,
+    p: Iri,
+    lexical: Text,
+    at: IriReading,
+    c: char,
+) -> Result<Option<LineAt>, Memory>
+    ensures { IfOk result (λ o. o ≡ spec.in_datatype s p lexical at c) }
+{
+    match at.step(alloc, c)? {
+        None => Ok(None),
+        Some(IriStep::Within(at)) => Ok(Some(LineAt::Suffix(
+            s,
+            p,
+            lexical,
+            SuffixAt::Datatype(at),
+        ))),
+        Some(IriStep::Whole(datatype)) => Ok(typed(s, p, lexical, datatype)),
+    }
+}
+
+fn after_carets(
+    alloc: Global,
+    s: Subject,
+    p: Iri,
+    lexical: Text,
+    c: char,
+) -> Result<Option<LineAt>, Memory>
+    ensures { IfOk result (λ o. o ≡ spec.after_carets s p lexical c) }
+{
+    if is_space(c) {
+        return Ok(Some(LineAt::Suffix(s, p, lexical, SuffixAt::Carets)));
+    }
+    in_datatype(alloc, s, p, lexical, IriReading::new(), c)
+}
+
+fn caret(s: Subject, p: Iri, lexical: Text, c: char) -> Option<LineAt>
+    ensures { result ≡ spec.caret s p lexical c }
+{
+    if c == '^' {
+        return Some(LineAt::Suffix(s, p, lexical, SuffixAt::Carets));
+    }
+    None
+}
+
+fn comment(triple: Option<Parts>, c: char) -> Option<LineAt>
+    ensures { result ≡ spec.comment triple c }
+{
+    if is_line_end(c) {
+        return None;
+    }
+    Some(LineAt::Comment(triple))
+}
+
+fn subject_step(alloc: Global, at: SubjectAt, c: char) -> Result<Option<LineAt>, Memory>
+    ensures { IfOk result (λ o. o ≡ spec.subject_step at c) }
+{
+    match at {
+        SubjectAt::Iri(at) => in_subject(alloc, at, c),
+        SubjectAt::Label(at) => in_subject_label(alloc, at, c),
+    }
+}
+
+fn object_step(
+    alloc: Global,
+    s: Subject,
+    p: Iri,
+    at: ObjectAt,
+    c: char,
+) -> Result<Option<LineAt>, Memory>
+    ensures { IfOk result (λ o. o ≡ spec.object_step s p at c) }
+{
+    match at {
+        ObjectAt::Iri(at) => in_object(alloc, s, p, at, c),
+        ObjectAt::Label(at) => in_object_label(s, p, at, c),
+        ObjectAt::Dot(label) => after_dot(s, p, label, c),
+        ObjectAt::String(at) => in_object_string(alloc, s, p, at, c),
+    }
+}
+
+fn suffix_step(
+    alloc: Global,
+    s: Subject,
+    p: Iri,
+    lexical: Text,
+    at: SuffixAt,
+    c: char,
+) -> Result<Option<LineAt>, Memory>
+    ensures { IfOk result (λ o. o ≡ spec.suffix_step s p lexical at c) }
+{
+    match at {
+        SuffixAt::Start => after_string(alloc, s, p, lexical, c),
+        SuffixAt::Tag(at) => in_tag(alloc, s, p, lexical, at, c),
+        SuffixAt::Caret => Ok(caret(s, p, lexical, c)),
+        SuffixAt::Carets => after_carets(alloc, s, p, lexical, c),
+        SuffixAt::Datatype(at) => in_datatype(alloc, s, p, lexical, at, c),
+    }
+}
+
+/// The state after one more character of the line, and None where no continuation is a line.
+pub fn step(alloc: Global, at: LineAt, c: char) -> Result<Option<LineAt>, Memory>
+    ensures { IfOk result (λ o. o ≡ spec.step at c) }
+{
+    match at {
+        LineAt::Begin => begin(alloc, c),
+        LineAt::Subject(at) => subject_step(alloc, at, c),
+        LineAt::AfterSubject(s) => after_subject(alloc, s, c),
+        LineAt::Predicate(s, at) => in_predicate(alloc, s, at, c),
+        LineAt::AfterPredicate(s, p) => after_predicate(alloc, s, p, c),
+        LineAt::Object(s, p, at) => object_step(alloc, s, p, at, c),
+        LineAt::Suffix(s, p, lexical, at) => suffix_step(alloc, s, p, lexical, at, c),
+        LineAt::AfterObject(triple) => Ok(after_object(triple, c)),
+        LineAt::Ended(triple) => Ok(ended(triple, c)),
+        LineAt::Comment(triple) => Ok(comment(triple, c)),
+    }
+}
+
+/// The triple of a line that ends within its object.
+fn last_object(s: Subject, p: Iri, at: ObjectAt) -> Option<Option<Parts>>
+    ensures { result ≡ spec.last_object s p at }
+{
+    match at {
+        ObjectAt::Dot(label) => Some(Some(Parts::new(s, p, Term::Blank(label)))),
+        ObjectAt::Iri(_) => None,
+        ObjectAt::Label(_) => None,
+        ObjectAt::String(_) => None,
+    }
+}
+
+/// The triple of a line that ends there, and None where no line ends there.
+pub fn last(at: LineAt) -> Option<Option<Parts>>
+    ensures { result ≡ spec.final at }
+{
+    match at {
+        LineAt::Begin => Some(None),
+        LineAt::Object(s, p, at) => last_object(s, p, at),
+        LineAt::Ended(triple) => Some(Some(triple)),
+        LineAt::Comment(triple) => Some(triple),
+        _ => None,
+    }
 }

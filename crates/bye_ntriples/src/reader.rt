@@ -1,79 +1,140 @@
-ghost use Rattle.std.specs.Prelude.{◌≡◌, List, IfOk, IsErrOf};
-ghost use Rattle.std.specs.Str.{chars};
-ghost use Rattle.bye_terms.specs.Terms.{Statement};
-ghost use Rattle.bye_ntriples.specs.FirstForm.{IsLines, IsFirstForm};
+//! Graph documents, read whole or in pieces.
 
+ghost use Rattle.bye_ntriples.specs.Answers.{IsFault, IsGraph};
+ghost use Rattle.bye_ntriples.specs.DocSteps.{start};
+ghost use Rattle.bye_ntriples.specs.Feeding.{HasCome, IsRefusal, LedTo, taken};
+ghost use Rattle.bye_ntriples.specs.Judging.{CannotGoOn, GoesOn};
+ghost use Rattle.std.specs.Prelude.{◌≡◌, ◌<◌, ◌+◌, ◌^◌, ◌++◌, [], ℕ, List, IfOk, IfErr, OnOk, length};
+ghost use Rattle.std.specs.Str.{encode_utf8_all};
+
+use crate::document::Document;
 use crate::fault::NtErr;
-use crate::line::line;
-use bye_terms::{Cursor, Triple, keep};
+use bye_lex::{decode, may_go_on_in_label};
+use bye_terms::{Cursor, Memory, Triple};
 use std::alloc::Global;
-use std::str;
+use std::marker::Model;
+use std::mem;
 
-fn read_lines(alloc: Global, text: &str) -> Result<Vec<Triple>, NtErr>
-    ensures found { IfOk result (λ v. IsLines (chars text.now) v.items) }
-    ensures none { IsErrOf result NtErr.NotFirstForm
-        → (triples : List Statement) → IsLines (chars text.now) triples → ⊥ }
-{
-    let mut triples = Vec::new(alloc);
-    let mut rest = Cursor::new(text);
-    while !rest.is_empty() {
-        let Some(triple) = line(alloc, &mut rest)? else {
-            return Err(NtErr::NotFirstForm);
-        };
-        keep(&mut triples, triple)?;
-    }
-    Ok(triples)
+/// How far a document was read: its lines, the bytes of a character that has not come whole, and the place of these.
+#[derive(Debug, Drop)]
+pub struct Reading {
+    document: Document,
+    left: Vec<u8>,
+    place: usize,
 }
 
-/// The triples of a document of the first form, in the order of its lines, repeats included.
-pub fn read_triples(alloc: Global, bytes: &[u8]) -> Result<Vec<Triple>, NtErr>
-    ensures found { IfOk result (λ v. IsFirstForm bytes.now v.items) }
-    ensures none { IsErrOf result NtErr.NotFirstForm
-        → (triples : List Statement) → IsFirstForm bytes.now triples → ⊥ }
-{
-    match str::from_utf8(bytes) {
-        Ok(text) => read_lines(alloc, text),
-        Err(_) => Err(NtErr::NotFirstForm),
-    }
+impl Model for Reading {
+    ghost use Rattle.bye_ntriples.specs.Feeding.{ReadingAt};
+
+    ghost Value = { ReadingAt };
+
+    ghost view = { λ r. record { doc = r.document; left = r.left.items; place = r.place } };
 }
 
-#[cfg(test)]
-mod tests {
-    use super::*;
-    use std::test::Fail;
+/// Whether what is left over after whole characters lets the document go on, at its place.
+fn judge(document: &Document, left: &[u8], begins: bool, place: usize) -> Result<(), NtErr>
+    ensures ok { OnOk result (GoesOn document.now left.now begins) }
+    ensures err { IfErr result (CannotGoOn document.now left.now begins place) }
+{
+    if !begins {
+        if document.is_over_there() {
+            return Err(NtErr::TooMany);
+        }
+        return Err(NtErr::NotUtf8(place));
+    }
+    if document.is_over_there() && !may_go_on_in_label(left) {
+        return Err(NtErr::TooMany);
+    }
+    Ok(())
+}
 
-    /// How many triples the document has, where it is of the first form.
-    fn count(alloc: Global, bytes: &[u8]) -> Result<Option<usize>, NtErr> {
-        match read_triples(alloc, bytes) {
-            Ok(found) => Ok(Some(found.len())),
-            Err(NtErr::NotFirstForm) => Ok(None),
-            Err(NtErr::Memory) => Err(NtErr::Memory),
+/// Puts bytes at the end of others.
+fn append(bytes: &mut Vec<u8>, more: &[u8]) -> Result<(), Memory>
+    ensures { OnOk result (bytes.new.items ≡ bytes.old.items ++ more.now) }
+{
+    bytes.extend_from_slice(more)?;
+    Ok(())
+}
+
+impl Reading {
+    /// Before the first byte.
+    pub fn new(alloc: Global) -> Reading
+        ensures { result ≡ record { doc = start; left = []; place = 0 } }
+    {
+        Reading {
+            document: Document::new(alloc),
+            left: Vec::new(alloc),
+            place: 0,
         }
     }
 
-    #[test]
-    fn counts_triples(rt: HostRuntime) -> Result<(), Fail> {
-        let cases: [(&[u8], Option<usize>); 16] = [
-            (b"", Some(0)),
-            (b"<a:s> <a:p> <a:o> .\n", Some(1)),
-            (b"<a:s> <a:p> <a:o> .\n<a:s> <a:p> <a:o> .\n", Some(2)),
-            (b"<http://e/\xC3\xA9> <a:p> <a:> .\n", Some(1)),
-            (b"<a:s> <a:p> \"o\" .\n", None),
-            (b"_:s <a:p> <a:o> .\n", None),
-            (b"<a:s s> <a:p> <a:o> .\n", None),
-            (b"<a:s>  <a:p> <a:o> .\n", None),
-            (b"<a:s> <a:p> <a:o>.\n", None),
-            (b"<a:s> <a:p> <a:o> .", None),
-            (b"<a:s> <a:p> <a:o> .\n<a:s> <a:p>\n", None),
-            (b"<s> <a:p> <a:o> .\n", None),
-            (b"<a:s> <a:p> <a:o> .\r\n", None),
-            (b"<a:s> <a:p> <a:o> .\n\n", None),
-            (b"<a:s> <a:p> <a:o .\n", None),
-            (b"<a:\xC3> <a:p> <a:o> .\n", None),
-        ];
-        for (index, (bytes, want)) in cases.iter().enumerate() {
-            assert_eq!(rt; count(rt.alloc(), bytes)?, *want, "at {index}");
+    /// Takes bytes that come after whole characters. After a refusal the reading is spoiled.
+    fn take(&mut self, alloc: Global, bytes: &[u8]) -> Result<(), NtErr>
+        requires { self.old.place + length bytes.now < 2 ^ 64 }
+        ensures ok { (front : List ℕ) → LedTo front self.old.doc self.old.place → OnOk result (HasCome (encode_utf8_all front ++ bytes.now) self.new) }
+        ensures err { (front : List ℕ) → LedTo front self.old.doc self.old.place → IfErr result (IsRefusal (encode_utf8_all front ++ bytes.now)) }
+        ensures taken { OnOk result (taken self.new ≡ self.old.place + length bytes.now) }
+    {
+        let decoded = decode(bytes);
+        let end = self.place + decoded.text.as_bytes().len();
+        if let Err(fault) = self.document.walk(alloc, Cursor::new(decoded.text), end) {
+            return Err(fault);
         }
+        if let Err(fault) = judge(&self.document, decoded.left, decoded.begins, end) {
+            return Err(fault);
+        }
+        self.left.clear();
+        append(&mut self.left, decoded.left)?;
+        self.place = end;
         Ok(())
+    }
+
+    /// Takes more bytes. After a refusal the reading is spoiled.
+    pub fn feed(&mut self, alloc: Global, piece: &[u8]) -> Result<(), NtErr>
+        requires { taken self.old + length piece.now < 2 ^ 64 }
+        ensures ok { (bytes : List ℕ) → HasCome bytes self.old → OnOk result (HasCome (bytes ++ piece.now) self.new) }
+        ensures err { (bytes : List ℕ) → HasCome bytes self.old → IfErr result (IsRefusal (bytes ++ piece.now)) }
+        ensures taken { OnOk result (taken self.new ≡ taken self.old + length piece.now) }
+    {
+        if self.left.is_empty() {
+            return self.take(alloc, piece);
+        }
+        let mut bytes = mem::replace(&mut self.left, Vec::new(alloc));
+        append(&mut bytes, piece)?;
+        self.take(alloc, bytes.as_slice())
+    }
+
+    /// The triples of the document that ends there.
+    pub fn finish(self) -> Result<Vec<Triple>, NtErr>
+        ensures read { (bytes : List ℕ) → HasCome bytes self → IfOk result (λ triples. IsGraph bytes triples.items) }
+        ensures fault { (bytes : List ℕ) → HasCome bytes self → IfErr result (IsFault bytes) }
+    {
+        if self.document.is_over_there() {
+            return Err(NtErr::TooMany);
+        }
+        if !self.left.is_empty() {
+            return Err(NtErr::NotUtf8(self.place));
+        }
+        let Reading {
+            document,
+            left: _,
+            place,
+        } = self;
+        match document.end()? {
+            Some(triples) => Ok(triples),
+            None => Err(NtErr::Syntax(place)),
+        }
+    }
+}
+
+/// The triples of a graph document, in the order of its lines, repeats included (RDF 1.1 N-Triples, section 2).
+pub fn read_triples(alloc: Global, bytes: &[u8]) -> Result<Vec<Triple>, NtErr>
+    ensures read { IfOk result (λ triples. IsGraph bytes.now triples.items) }
+    ensures fault { IfErr result (IsFault bytes.now) }
+{
+    let mut reading = Reading::new(alloc);
+    match reading.take(alloc, bytes) {
+        Ok(()) => reading.finish(),
+        Err(fault) => Err(fault),
     }
 }

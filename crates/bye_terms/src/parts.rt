@@ -35,6 +35,24 @@ impl Iri {
         }
     }
 
+    /// xsd:string, the datatype of a string without a tag (RDF 1.1 Concepts, section 3.3).
+    pub fn xsd_string(alloc: Global) -> Result<Iri, Memory>
+        ensures { IfOk result (λ i. i ≡ literals.xsd_string) }
+    {
+        let mut text = Text::new(alloc);
+        text.push_ascii("http://www.w3.org/2001/XMLSchema#string")?;
+        Ok(Iri { text })
+    }
+
+    /// rdf:langString, the datatype of the strings with a language tag (RDF 1.1 Concepts, section 3.3).
+    pub fn lang_string(alloc: Global) -> Result<Iri, Memory>
+        ensures { IfOk result (λ i. i ≡ literals.lang_string) }
+    {
+        let mut text = Text::new(alloc);
+        text.push_ascii("http://www.w3.org/1999/02/22-rdf-syntax-ns#langString")?;
+        Ok(Iri { text })
+    }
+
     /// The text of the IRI, which no `<` and no `>` stands around.
     pub fn text(&self) -> &Text
         ensures text { result.now ≡ self.now }
@@ -98,6 +116,14 @@ impl Label {
         } else {
             None
         }
+    }
+
+    /// The text of the label, given up.
+    pub fn into_text(self) -> Text
+        ensures text { result ≡ self }
+        ensures valid { IsTrue (is_label self) }
+    {
+        self.text
     }
 
     /// The text of the label.

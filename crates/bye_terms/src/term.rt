@@ -1,9 +1,9 @@
-ghost use Rattle.std.specs.Prelude.{◌≡◌, IfOk, IfSome, IsNone, None, IsTrue, true, ◌↔◌};
+ghost use Rattle.std.specs.Prelude.{◌≡◌, IfOk, IfSome, IsNone, Some, None, IsTrue, true, ◌↔◌};
 ghost use Rattle.std.specs.Cmp.Lexicographic.{slice_cmp};
 ghost use Rattle.std.specs.Ordering.{nat_cmp};
 ghost use Rattle.std.specs.Prelude.{◌++◌, codes};
 ghost use Rattle.std.specs.Str.{encode_utf8_all};
-ghost use Rattle.bye_terms.specs.Literals.{is_lang_string};
+ghost use Rattle.bye_terms.specs.Literals.{is_lang_string, lang_string, xsd_string};
 ghost use Rattle.bye_terms.specs.Pieces.{left_of};
 ghost use Rattle.bye_terms.specs.Spellings.{escaped, literal_bytes, term_bytes};
 
@@ -100,6 +100,30 @@ impl Literal {
             lexical,
             datatype,
             tag: None,
+        })
+    }
+
+    /// A string without a language tag, whose datatype is xsd:string.
+    pub fn string(alloc: Global, lexical: Text) -> Result<Literal, Memory>
+        ensures { IfOk result (λ l. l ≡ record { lexical = lexical; datatype = xsd_string; tag = None }) }
+    {
+        let datatype = Iri::xsd_string(alloc)?;
+        Ok(Literal {
+            lexical,
+            datatype,
+            tag: None,
+        })
+    }
+
+    /// A string with a language tag, whose datatype is rdf:langString.
+    pub fn tagged(alloc: Global, lexical: Text, tag: Tag) -> Result<Literal, Memory>
+        ensures { IfOk result (λ l. l ≡ record { lexical = lexical; datatype = lang_string; tag = Some tag }) }
+    {
+        let datatype = Iri::lang_string(alloc)?;
+        Ok(Literal {
+            lexical,
+            datatype,
+            tag: Some(tag),
         })
     }
 

@@ -1,0 +1,68 @@
+-- Why a document is not read, and what it then is for the command.
+use Rattle.std.proofs.Common.{◌≡◌, refl, ℕ, zero, suc, ◌<◌, ◌≤◌, List, [], ◌∷◌, length, Option, Some, None, inl, inr, ◌⊎◌, ⊎_elim, sym, subst, arith, IsSomeAnd}
+use Rattle.bye_io.specs.Counts.{Rose}
+use Rattle.bye_io.specs.Files.{Lacks}
+use Rattle.bye_io.specs.declared.fault.ReadErr.{ReadErr}
+use Rattle.bye_io.specs.declared.fault.ReadErr.TheVariants as errors
+use Rattle.bye_ntriples.specs.Answers.{IsFault}
+use Rattle.bye_ntriples.specs.declared.fault.NtErr.{NtErr}
+use Rattle.bye_ntriples.specs.declared.fault.NtErr.TheVariants as graph_errors
+use Rattle.bye_cli.specs.Words.{Word, Command, IsCommand}
+use Rattle.bye_cli.specs.Documents.{Files, Holds, HoldsLonger, Document, due, limit_of, Verdict, TooMany, Faulty, HasVerdict, Reaches, Stops}
+use Rattle.bye_cli.specs.Causes.{IsUnread, IsCause, IsUnreadable}
+use Rattle.bye_cli.specs.Refusals.{refusal_of, graph_refusal}
+use Rattle.bye_cli.specs.declared.refusal.Role.{Role}
+use Rattle.bye_cli.specs.declared.refusal.Role.TheVariants.{Graph}
+use Rattle.bye_cli.specs.declared.refusal.Count.TheVariants as counts
+use Rattle.bye_cli.specs.declared.refusal.Refusal.{Refusal}
+use Rattle.bye_cli.specs.declared.refusal.Refusal.TheVariants as refusals
+
+-- bytes that are more than so many
+longer : (n : ℕ) → (bytes : List ℕ) × (n < length bytes)
+longer zero = (0 ∷ [], omega arith)
+longer (suc n) = let w = longer n in let l : n < length w.0 = w.1 in (0 ∷ w.0, omega arith)
+
+long_verdict : (files : Files) (role : Role) (name : Word) → HoldsLonger files name (limit_of role) → HasVerdict files (role, name) (TooMany counts.Bytes)
+long_verdict None role name h = let w = longer (limit_of role) in record { bytes = w.0; held = tt; judged = w.1 }
+long_verdict (Some files) role name h = told (files name) refl h
+  where
+    told : (o : Option (List ℕ)) → files name ≡ o → IsSomeAnd o (λ bytes. limit_of role < length bytes) → HasVerdict (Some files) (role, name) (TooMany counts.Bytes)
+    told None e h = absurd h
+    told (Some bytes) e h = record { bytes = bytes; held = e; judged = h }
+
+-- a document whose bytes were not read
+pub unread : (files : Files) (role : Role) (name : Word) (before now : ℕ) (err : ReadErr) (refusal : Refusal) → refusal ≡ refusal_of role err
+    → (err ≡ errors.TooLong → HoldsLonger files name (limit_of role)) → (err ≡ errors.Failed → Rose before now ⊎ Lacks files name) → IsUnread files (role, name) before now refusal
+unread files role name before now errors.TooLong refusal e long failed = subst (IsUnread files (role, name) before now) (sym e) (refl, long_verdict files role name (long refl))
+unread files role name before now errors.Failed refusal e long failed = subst (IsUnread files (role, name) before now) (sym e) (refl, failed refl)
+unread files role name before now errors.Memory refusal e long failed = subst (IsUnread files (role, name) before now) (sym e) tt
+
+-- a graph that is not of its form or has too many triples
+pub no_graph : (files : Files) (name : Word) (before now : ℕ) (bytes : List ℕ) (err : NtErr) (refusal : Refusal) → refusal ≡ graph_refusal err
+    → Holds files name bytes → length bytes ≤ limit_of Graph → IsFault bytes err → IsUnread files (Graph, name) before now refusal
+no_graph files name before now bytes (graph_errors.Syntax place) refusal e held within fault =
+    subst (IsUnread files (Graph, name) before now) (sym e) (refl, record { bytes = bytes; held = held; judged = (within, fault) })
+no_graph files name before now bytes (graph_errors.NotUtf8 place) refusal e held within fault =
+    subst (IsUnread files (Graph, name) before now) (sym e) (refl, record { bytes = bytes; held = held; judged = (within, fault) })
+no_graph files name before now bytes graph_errors.TooMany refusal e held within fault =
+    subst (IsUnread files (Graph, name) before now) (sym e) (refl, record { bytes = bytes; held = held; judged = (within, fault) })
+no_graph files name before now bytes graph_errors.Memory refusal e held within fault = subst (IsUnread files (Graph, name) before now) (sym e) tt
+
+rose_later : (before mid now : ℕ) → before ≤ mid → Rose mid now → Rose before now
+rose_later before mid now l rose = omega arith
+
+stops_at : (files : Files) (ds : List Document) (d : Document) (role : Role) (verdict : Verdict) → d.0 ≡ role → Reaches files ds d → HasVerdict files d verdict → Stops files ds role verdict
+stops_at files ds d role verdict e reached has = subst (λ (r : Role). Stops files ds r verdict) e (record { name = d.1; reached = reached; has = has })
+
+-- where a document that is reached is not read, there is no answer
+pub reached_unread : (files : Files) (words : List Word) (command : Command) (d : Document) (before mid now : ℕ) (refusal : Refusal) → IsCommand words command
+    → Reaches files (due command) d → before ≤ mid → IsUnread files d mid now refusal → IsCause files words before now refusal
+reached_unread files words command d before mid now refusals.Words is reached later h = absurd h
+reached_unread files words command d before mid now (refusals.Document role fault) is reached later h = (command, is, stops_at files (due command) d role (Faulty fault) h.0 reached h.1)
+reached_unread files words command d before mid now (refusals.Limit role count) is reached later h = (command, is, stops_at files (due command) d role (TooMany count) h.0 reached h.1)
+reached_unread files words command d before mid now (refusals.ReadFault role) is reached later h =
+    subst (IsUnreadable files words before now) h.0
+    (record { command = command; is = is; name = d.1; reached = reached; cause = ⊎_elim (λ rose. inl (rose_later before mid now later rose)) (λ lacks. inr lacks) h.1 })
+reached_unread files words command d before mid now refusals.WriteFault is reached later h = absurd h
+reached_unread files words command d before mid now refusals.Memory is reached later h = (command, is)
+reached_unread files words command d before mid now refusals.Example is reached later h = absurd h

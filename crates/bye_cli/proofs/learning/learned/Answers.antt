@@ -1,0 +1,46 @@
+use Rattle.std.proofs.Common.{◌≡◌, refl, ◌<◌, length, Bool, false, ◌==◌, List, inl, inr, subst, arith}
+use Rattle.std.proofs.lemmas.Result.{err_from_is_err_and}
+use Rattle.bye_terms.specs.Terms.{Statement}
+use Rattle.bye_pattern.specs.Mappings.{Pairs}
+use Rattle.bye_cli.specs.Documents.{Files, HasVerdict, Triples, Rows, Good}
+use Rattle.bye_cli.specs.Words.{Learn}
+use Rattle.bye_cli.specs.Problem.{IsGiven, IsAsked, IsRead, IsWritten}
+use Rattle.bye_cli.specs.Causes.{IsUnread}
+use Rattle.bye_cli.specs.declared.refusal.Role.TheVariants.{Graph, Wanted}
+use Rattle.bye_cli.proofs.Asked.{is_read, is_answer}
+use Rattle.bye_cli.proofs.Unread.{reached_unread}
+use Rattle.bye_cli.proofs.learning.learned.Goals as goal
+
+not_empty : (rows : List Pairs) (b : Bool) → b ≡ (length rows == 0) → b ≡ false → 0 < length rows
+not_empty rows b e f = grind arith
+
+pub returns-in_err-graph-clause-cause : goal.returns-in_err-graph-clause-cause
+returns-in_err-graph-clause-cause g c = let p = err_from_is_err_and c.from_residual.result c.from_residual.ensures.1 in
+    rw (p.1, p.2) (λ words is. reached_unread _ words (Learn c.args.names.graph.now c.args.names.wanted.now) (Graph, c.args.names.graph.now) _ _ _ c.in_err-graph.field-0.0 is (inl refl) (omega arith)
+    c.in_err-graph.ensures.unread)
+
+pub returns-in_err-wanted-clause-cause : goal.returns-in_err-wanted-clause-cause
+returns-in_err-wanted-clause-cause g c = let p = err_from_is_err_and c.from_residual-in_err-wanted.result c.from_residual-in_err-wanted.ensures.1 in
+    let unread = subst (λ (files : Files). IsUnread files (Wanted, c.args.names.wanted.now) (g.F.Source.faults c.read_graph.new.folder) (g.F.Source.faults c.read_wanted.new.folder) c.in_err-wanted.field-0.0) c.in_ok-graph.ensures.files c.in_err-wanted.ensures.unread in
+    rw (p.1, p.2) (λ words is. reached_unread _ words (Learn c.args.names.graph.now c.args.names.wanted.now) (Wanted, c.args.names.wanted.now) _ (g.F.Source.faults c.read_graph.new.folder) _ c.in_err-wanted.field-0.0 is
+    (inr (Triples c.in_ok-graph.graph.items, c.in_ok-graph.ensures.read, inl refl)) c.in_ok-graph.ensures.later unread)
+
+pub returns-in_err-answer-clause-cause : goal.returns-in_err-answer-clause-cause
+returns-in_err-answer-clause-cause g c = let p = err_from_is_err_and c.from_residual-in_err-answer.result c.from_residual-in_err-answer.ensures.1 in
+    rw (p.1, p.2) (λ words is. (Learn c.args.names.graph.now c.args.names.wanted.now, is))
+
+pub returns-clause-answer : goal.returns-clause-answer
+returns-clause-answer g c =
+    let wanted_held = subst (λ (files : Files). HasVerdict files (Wanted, c.args.names.wanted.now) (Good (Rows c.in_ok-wanted.wanted))) c.in_ok-graph.ensures.files c.in_ok-wanted.ensures.read in
+    let written = subst (λ (graph : List Statement). IsRead graph c.in_ok-wanted.wanted → IsWritten graph c.in_ok-wanted.wanted c.in_ok-answer.answer) c.as_slice.ensures.value c.in_ok-answer.ensures in
+    let row : 0 < length c.in_ok-wanted.wanted.rows = subst (λ (rows : List Pairs). 0 < length rows) c.rows.ensures (not_empty c.rows.result.now c.is_empty.result c.is_empty.ensures c.if-is_empty.false) in
+    λ words is.
+    let given : IsGiven (g.F.Folder.files c.args.folder.now) words c.in_ok-graph.graph.items c.in_ok-wanted.wanted = record {
+      graph_name = c.args.names.graph.now;
+      wanted_name = c.args.names.wanted.now;
+      learn = is;
+      graph_held = c.in_ok-graph.ensures.read;
+      wanted_held = wanted_held;
+    } in
+    let asked : IsAsked (g.F.Folder.files c.args.folder.now) words c.in_ok-graph.graph.items c.in_ok-wanted.wanted = record { given = given; some_row = row } in
+    is_answer _ _ _ _ c.in_ok-answer.answer asked (written (is_read _ _ _ _ asked))

@@ -1,0 +1,25 @@
+//! The work of `convert`.
+
+ghost use Rattle.std.specs.Prelude.{List, IfOk, IfErr};
+ghost use Rattle.bye_cli.specs.Words.{Word, IsConvert};
+ghost use Rattle.bye_cli.specs.Problem.{IsAnswer};
+ghost use Rattle.bye_cli.specs.Causes.{IsCause};
+
+use crate::answer::Answer;
+use crate::document::read_graph;
+use crate::refusal::Refusal;
+use bye_io::Folder;
+use bye_ntriples::write_triples;
+use bye_terms::Text;
+use std::alloc::Global;
+
+/// The canonical document of the graph of this name.
+pub fn converted<F: Folder>(alloc: Global, folder: &mut F, name: &Text) -> Result<Answer, Refusal>
+    ensures answer { IfOk result (λ answer. (words : List Word) → IsConvert words name.now → IsAnswer (F.files folder.old) words answer) }
+    ensures cause { IfErr result (λ refusal. (words : List Word) → IsConvert words name.now
+        → IsCause (F.files folder.old) words (F.faults folder.old) (F.faults folder.new) refusal) }
+{
+    let graph = read_graph(alloc, folder, name)?;
+    let bytes = write_triples(alloc, graph.as_slice())?;
+    Ok(Answer::Document(bytes))
+}

@@ -1,0 +1,395 @@
+-- From a character of a triple, and what a state wants, to the next state and what it wants.
+use Rattle.std.proofs.lemmas.List.{append-nil}
+use Rattle.bye_terms.proofs.Tests.{both_parts}
+use Rattle.bye_ntriples.proofs.Readings.{same_text}
+use Rattle.bye_lex.specs.declared.string.StringAt.{StringAt}
+use Rattle.std.proofs.Common.{option_map, append_assoc, ◌≡◌, refl, ℕ, Bool, true, false, cond, ◌==◌, ◌&&◌, ◌||◌, List, [], ◌∷◌, ◌++◌, Option, Some, None, ◌⊎◌, inl, inr, ⊎_elim, drop, sym, ◌∙◌, ap, subst}
+use Rattle.bye_terms.specs.Terms.{Statement}
+use Rattle.bye_terms.specs.declared.term.Term.{Term}
+use Rattle.bye_terms.specs.declared.term.Term.TheVariants.{Iri, Blank}
+use Rattle.bye_lex.specs.Iris.{IriToken}
+use Rattle.bye_lex.specs.Marks.{LabelToken, TagToken}
+use Rattle.bye_lex.specs.MarkSteps as mark
+use Rattle.bye_lex.specs.MarkSteps.{wants, is_whole}
+use Rattle.bye_lex.specs.Strings.{StringToken, StringTail, around, has_quoting}
+use Rattle.bye_lex.specs.declared.iri.IriAt.{IriAt}
+use Rattle.bye_lex.specs.declared.iri.IriAt.TheVariants as iri_at
+use Rattle.bye_lex.specs.declared.mark.MarkAt.{MarkAt}
+use Rattle.bye_lex.specs.declared.mark.MarkAt.TheVariants as marks
+use Rattle.bye_lex.specs.declared.string.Quote.TheVariants.{Double, Single}
+use Rattle.bye_lex.specs.declared.string.Quoting.{Quoting}
+use Rattle.bye_lex.specs.declared.string.Quoting.TheVariants.{Short, Long}
+use Rattle.bye_lex.specs.declared.string.StringAt.TheVariants as string_at
+use Rattle.bye_lex.specs.declared.style.Style.TheVariants.{Triples}
+use Rattle.bye_lex.proofs.Branches.{when, unless, eqb_same, same_eqb, heads}
+use Rattle.bye_lex.proofs.MarkExact.{mark_exact}
+use Rattle.bye_ntriples.specs.Lines.{is_space, Spaced, Then, Dot, Dotted, DatatypeToken, Datatype, Carets, Tagged, AfterSpaces}
+use Rattle.bye_ntriples.specs.Lines as lines
+use Rattle.bye_ntriples.specs.LineSteps as line
+use Rattle.bye_ntriples.specs.Running.{Marked, marks_left}
+use Rattle.bye_ntriples.specs.TokenSteps.{marked, label_start, tag_start}
+use Rattle.bye_ntriples.specs.Triples.{triple_of, string_of, tagged_of, typed_of}
+use Rattle.bye_ntriples.specs.declared.line.LineAt.{LineAt}
+use Rattle.bye_ntriples.specs.declared.line.LineAt.TheVariants.{Begin, Subject, AfterSubject, Predicate, AfterPredicate, Object, Suffix, AfterObject, Ended, Comment}
+use Rattle.bye_ntriples.specs.declared.line.SubjectAt.TheVariants as subjects
+use Rattle.bye_ntriples.specs.declared.line.ObjectAt.TheVariants as objects
+use Rattle.bye_ntriples.specs.declared.line.SuffixAt.TheVariants as suffixes
+use Rattle.bye_ntriples.proofs.LineMeaning.{WithinMark, WithinIri, WithinString, AfterSubjectIri, AfterSubjectLabel, AfterPredicateIri, AfterObjectIri, AfterObjectLabel, AfterTag, AfterDatatype, LeftTriple, Good, is_label_state, is_tag_state, is_open_string}
+use Rattle.bye_ntriples.proofs.Tokens.{Onward, begin_iri, iri_forth, decided}
+use Rattle.bye_ntriples.proofs.StringTokens.{string_forth}
+use Rattle.bye_ntriples.proofs.MarkTokens.{mark_forth}
+
+-- the first character of a token
+first_iri : {W : Type 0} (Rest : List ℕ → List ℕ → W → Type 0) (c : ℕ) (t : List ℕ) (w : W) → Then (IriToken true) Rest (c ∷ t) w → c ≡ 60
+first_iri Rest c t w h = (heads c 60 t (h.token.rest ++ h.rest) (h.spelled ∙ ap (λ own. own ++ h.rest) h.token.spelled)).0
+
+pub begin_label : {W : Type 0} (Rest : List ℕ → List ℕ → W → Type 0) (text : List ℕ) (w : W) → Then LabelToken Rest text w → WithinMark Rest label_start text w
+begin_label Rest text w h = record {
+  own = h.own;
+  rest = h.rest;
+  is = ap (wants marks.Label) h.token.0 ∙ h.token.1;
+  after = subst (λ v. Rest v h.rest w) (sym (ap (drop 2) h.token.0)) h.after;
+  spelled = h.spelled;
+}
+
+first_label : {W : Type 0} (Rest : List ℕ → List ℕ → W → Type 0) (c : ℕ) (t : List ℕ) (w : W) → Then LabelToken Rest (c ∷ t) w → c ≡ 95
+first_label Rest c t w h = (heads c 95 t (58 ∷ h.value ++ h.rest) (h.spelled ∙ ap (λ own. own ++ h.rest) h.token.0)).0
+
+pub begin_tag : {W : Type 0} (Rest : List ℕ → List ℕ → W → Type 0) (text : List ℕ) (w : W) → Then TagToken Rest text w → WithinMark Rest tag_start text w
+begin_tag Rest text w h = record {
+  own = h.own;
+  rest = h.rest;
+  is = ap (wants marks.Tag) h.token.0 ∙ h.token.1;
+  after = subst (λ v. Rest v h.rest w) (sym (ap (drop 1) h.token.0)) h.after;
+  spelled = h.spelled;
+}
+
+first_tag : {W : Type 0} (Rest : List ℕ → List ℕ → W → Type 0) (c : ℕ) (t : List ℕ) (w : W) → Then TagToken Rest (c ∷ t) w → c ≡ 64
+first_tag Rest c t w h = (heads c 64 t (h.value ++ h.rest) (h.spelled ∙ ap (λ own. own ++ h.rest) h.token.0)).0
+
+quoted_at : {W : Type 0} (Rest : List ℕ → List ℕ → W → Type 0) (text : List ℕ) (w : W) (own value rest : List ℕ) (token : StringToken Triples own value) (quoting : Quoting) → token.quoting ≡ quoting → Rest value rest w → text ≡ own ++ rest → WithinString Rest string_at.Start text w
+quoted_at Rest text w own value rest token (Short Double) e k p =
+    let is = subst (λ q. (tail : List ℕ) × (own ≡ around q ++ tail) × StringTail Triples q tail value) e (token.tail, token.spelled, token.after) in
+    record { first = 34; own = is.0; value = value; rest = rest; is = record { quoting = Short Double; has = refl; tail = is.0; after = is.2; spelled = refl }; after = k; spelled = p ∙ ap (λ own. own ++ rest) is.1 }
+quoted_at Rest text w own value rest token (Short Single) e k p = let h = sym (ap (has_quoting Triples) e) ∙ token.has in cc
+quoted_at Rest text w own value rest token (Long q) e k p = let h = sym (ap (has_quoting Triples) e) ∙ token.has in cc
+
+pub begin_string : {W : Type 0} (Rest : List ℕ → List ℕ → W → Type 0) (text : List ℕ) (w : W) → Then (StringToken Triples) Rest text w → WithinString Rest string_at.Start text w
+begin_string Rest text w h = quoted_at Rest text w h.own h.value h.rest h.token h.token.quoting refl h.after h.spelled
+
+string_first : {W : Type 0} (Rest : List ℕ → List ℕ → W → Type 0) (c : ℕ) (t : List ℕ) (w : W) → Then (StringToken Triples) Rest (c ∷ t) w → c ≡ 34
+string_first Rest c t w h =
+    let k = begin_string Rest (c ∷ t) w h in
+    let q : k.first ≡ 34 = starts k.is.quoting k.is.tail k.first k.own k.is.has k.is.spelled in
+    (heads c k.first t (k.own ++ k.rest) k.spelled).0 ∙ q
+  where
+    starts : (quoting : Quoting) (tail : List ℕ) (c : ℕ) (own : List ℕ) → has_quoting Triples quoting ≡ true → c ∷ own ≡ around quoting ++ tail → c ≡ 34
+    starts (Short Double) tail c own h e = (heads c 34 own tail e).0
+    starts (Short Single) tail c own h e = cc
+    starts (Long q) tail c own h e = cc
+
+-- spaces, or what follows them
+spaced_forth : (P : LineAt → List ℕ → Statement → Type 0) (L : List ℕ → Statement → Type 0) (state : LineAt) (other : Option LineAt) (c : ℕ) (t : List ℕ) (v : Statement) → (Spaced L t v → P state t v) → (L (c ∷ t) v → (is_space c ≡ false) × Onward P other t v)
+    → Spaced L (c ∷ t) v → Onward P (cond (is_space c) (Some state) other) t v
+spaced_forth P L state other c t v into onto (inl k) = (state, when _ _ _ k.0, into k.1)
+spaced_forth P L state other c t v into onto (inr k) = let m = onto k in (m.1.0, unless _ _ _ _ m.0 m.1.1, m.1.2)
+
+no_space : (c d : ℕ) → c ≡ d → is_space d ≡ false → is_space c ≡ false
+no_space c d e f = ap is_space e ∙ f
+
+not_this : (c d e : ℕ) → c ≡ d → (d == e) ≡ false → (c == e) ≡ false
+not_this c d e h f = ap (λ c. c == e) h ∙ f
+
+pub space_is : (c : ℕ) → is_space c ≡ true → (c ≡ 32) ⊎ (c ≡ 9)
+space_is c e = ⊎_elim (λ b. inl (eqb_same c 32 b)) (λ b. inr (eqb_same c 9 (sym (or_first (c == 32) (c == 9) b) ∙ e))) (decided (c == 32))
+  where
+    or_first : (a b : Bool) → a ≡ false → (a || b) ≡ b
+    or_first true b e = cc
+    or_first false b e = refl
+
+-- no whole label or tag goes on with a space or a bracket
+at_space : (m : MarkAt) → is_whole m ≡ true → (mark.step m 32 ≡ None) × ((mark.step m 9 ≡ None) × (mark.step m 60 ≡ None))
+at_space marks.Name e = (refl, (refl, refl))
+at_space marks.InName e = (refl, (refl, refl))
+at_space marks.Label e = (refl, (refl, refl))
+at_space marks.Underscore e = (refl, (refl, refl))
+at_space marks.Colon e = (refl, (refl, refl))
+at_space marks.InLabel e = (refl, (refl, refl))
+at_space marks.Dotted e = (refl, (refl, refl))
+at_space marks.Tag e = (refl, (refl, refl))
+at_space marks.Sign e = (refl, (refl, refl))
+at_space marks.Letters e = (refl, (refl, refl))
+at_space marks.Hyphen e = (refl, (refl, refl))
+at_space marks.Subtag e = (refl, (refl, refl))
+
+stops_at : (m : MarkAt) (c d : ℕ) → c ≡ d → mark.step m d ≡ None → mark.step m c ≡ None
+stops_at m c d e f = ap (mark.step m) e ∙ f
+
+spaced_apart : (m : MarkAt) (c : ℕ) → is_whole m ≡ true → is_space c ≡ true → mark.step m c ≡ None
+spaced_apart m c w e = ⊎_elim (λ k. stops_at m c 32 k (at_space m w).0) (λ k. stops_at m c 9 k (at_space m w).1.0) (space_is c e)
+
+-- a whole tag does not go on with a dot
+tag_stops : (m : MarkAt) → is_tag_state m ≡ true → mark.step m 46 ≡ None
+tag_stops marks.Name e = cc
+tag_stops marks.InName e = cc
+tag_stops marks.Label e = cc
+tag_stops marks.Underscore e = cc
+tag_stops marks.Colon e = cc
+tag_stops marks.InLabel e = cc
+tag_stops marks.Dotted e = cc
+tag_stops marks.Tag e = refl
+tag_stops marks.Sign e = refl
+tag_stops marks.Letters e = refl
+tag_stops marks.Hyphen e = refl
+tag_stops marks.Subtag e = refl
+
+-- a whole label is at its last character
+pub whole_label : (m : MarkAt) → is_label_state m ≡ true → is_whole m ≡ true → m ≡ marks.InLabel
+whole_label marks.Name e w = cc
+whole_label marks.InName e w = cc
+whole_label marks.Label e w = cc
+whole_label marks.Underscore e w = cc
+whole_label marks.Colon e w = cc
+whole_label marks.InLabel e w = refl
+whole_label marks.Dotted e w = cc
+whole_label marks.Tag e w = cc
+whole_label marks.Sign e w = cc
+whole_label marks.Letters e w = cc
+whole_label marks.Hyphen e w = cc
+whole_label marks.Subtag e w = cc
+
+-- What may stand after the dot of a triple: it leads on from there, and does not go on in a label.
+pub record Endings (End : List ℕ → Type 0) : Type 0 where
+  pub forth : (stated : Statement) (c : ℕ) (t : List ℕ) → End (c ∷ t) → Onward (LeftTriple End) (line.ended stated c) t stated
+  pub apart : (c : ℕ) (t : List ℕ) → End (c ∷ t) → mark.step marks.Dotted c ≡ None
+
+no_dot : (a b : Bool) → a ≡ true → (a && b) ≡ false → b ≡ false
+no_dot true b e f = f
+no_dot false b e f = cc
+
+-- before the dot that ends the triple, or at a dot that may belong to a label
+abbrev pub is_before_end : LineAt → Bool
+is_before_end Begin = true
+is_before_end (Subject at) = true
+is_before_end (AfterSubject s) = true
+is_before_end (Predicate s at) = true
+is_before_end (AfterPredicate s p) = true
+is_before_end (Object s p at) = true
+is_before_end (Suffix s p lexical at) = true
+is_before_end (AfterObject stated) = true
+is_before_end (Ended stated) = false
+is_before_end (Comment fact) = false
+
+module _ (End : List ℕ → Type 0) where
+  abbrev Next : Option LineAt → List ℕ → Statement → Type 0
+  Next = Onward (LeftTriple End)
+
+  dot_is : (stated : Statement) (c : ℕ) (t : List ℕ) (v : Statement) → Dot End stated (c ∷ t) v → (c ≡ 46) × (End t × (v ≡ stated))
+  dot_is stated c t v h = let k = heads c 46 t h.rest h.spelled in (k.0, (subst End (sym k.1) h.end, h.is))
+
+  after_object : (stated : Statement) (c : ℕ) (t : List ℕ) (v : Statement) → Dotted End stated (c ∷ t) v → Next (line.after_object stated c) t v
+  after_object stated c t v h =
+      spaced_forth (LeftTriple End) (Dot End stated) (AfterObject stated) _ c t v (λ k. k)
+      (λ k. let d = dot_is stated c t v k in (no_space c 46 d.0 refl, (Ended stated, when _ _ _ (same_eqb c 46 d.0), d.1)))
+      h
+
+  in_predicate : (s : Term) (at : IriAt) (c : ℕ) (t : List ℕ) (v : Statement) → WithinIri (AfterPredicateIri End s) at (c ∷ t) v → Next (line.in_predicate s at c) t v
+  in_predicate s at c t v h = iri_forth (LeftTriple End) (AfterPredicateIri End s) (λ n. Predicate s n) (λ p. Some (AfterPredicate s p)) at c t v (λ n k. k) (λ p k. (AfterPredicate s p, refl, k)) h
+
+  after_subject : (s : Term) (c : ℕ) (t : List ℕ) (v : Statement) → Spaced (lines.Predicate End s) (c ∷ t) v → Next (line.after_subject s c) t v
+  after_subject s c t v h =
+      spaced_forth (LeftTriple End) (lines.Predicate End s) (AfterSubject s) _ c t v (λ k. k)
+      (λ k. (no_space c 60 (first_iri (AfterPredicateIri End s) c t v k) refl, in_predicate s iri_at.Start c t v (begin_iri k)))
+      h
+
+  in_subject : (at : IriAt) (c : ℕ) (t : List ℕ) (v : Statement) → WithinIri (AfterSubjectIri End) at (c ∷ t) v → Next (line.in_subject at c) t v
+  in_subject at c t v h = iri_forth (LeftTriple End) (AfterSubjectIri End) (λ n. Subject (subjects.Iri n)) (λ s. Some (AfterSubject (Iri s))) at c t v (λ n k. k) (λ s k. (AfterSubject (Iri s), refl, k)) h
+
+  subject_apart : (m : MarkAt) (s : List ℕ) (c : ℕ) (t : List ℕ) (v : Statement) → is_whole m ≡ true → AfterSubjectLabel End s (c ∷ t) v → mark.step m c ≡ None
+  subject_apart m s c t v w (inl k) = spaced_apart m c w k.0
+  subject_apart m s c t v w (inr k) = stops_at m c 60 (first_iri (AfterPredicateIri End (Blank s)) c t v k) (at_space m w).1.1
+
+  in_subject_label : (m : Marked) (c : ℕ) (t : List ℕ) (v : Statement) → WithinMark (AfterSubjectLabel End) m (c ∷ t) v → Next (line.in_subject_label m c) t v
+  in_subject_label m c t v h =
+      mark_forth (LeftTriple End) (AfterSubjectLabel End) (λ n. Subject (subjects.Label n)) (λ s c. line.after_subject (Blank s) c) m c t v (λ n k. k) (λ s k. after_subject (Blank s) c t v k)
+      (λ s b k. subject_apart m.at s c t v b k) h
+
+  abbrev AtSubject : ℕ → List ℕ → Statement → Type 0
+  AtSubject c t v = ((is_space c ≡ false) × ((c == 35) ≡ false)) × Next (line.subject c) t v
+
+  subject : (c : ℕ) (t : List ℕ) (v : Statement) → lines.Subject End (c ∷ t) v → AtSubject c t v
+  subject c t v (inl k) =
+      let e = first_iri (AfterSubjectIri End) c t v k in
+      let n = in_subject iri_at.Start c t v (begin_iri k) in
+      ((no_space c 60 e refl, not_this c 60 35 e refl), (n.0, when _ _ _ (same_eqb c 60 e) ∙ n.1, n.2))
+  subject c t v (inr k) =
+      let e = first_label (AfterSubjectLabel End) c t v k in
+      let n = in_subject_label label_start c t v (begin_label (AfterSubjectLabel End) (c ∷ t) v k) in
+      ((no_space c 95 e refl, not_this c 95 35 e refl), (n.0, unless _ _ _ _ (not_this c 95 60 e refl) refl ∙ n.1, n.2))
+
+  begin : (c : ℕ) (t : List ℕ) (v : Statement) → lines.Triple End (c ∷ t) v → Next (line.begin c) t v
+  begin c t v h =
+      spaced_forth (LeftTriple End) (lines.Subject End) Begin _ c t v (λ k. k)
+      (λ k. let n = subject c t v k in (n.0.0, (n.1.0, unless _ _ _ _ n.0.1 refl ∙ n.1.1, n.1.2)))
+      h
+
+  in_object : (s : Term) (p : List ℕ) (at : IriAt) (c : ℕ) (t : List ℕ) (v : Statement) → WithinIri (AfterObjectIri End s p) at (c ∷ t) v → Next (line.in_object s p at c) t v
+  in_object s p at c t v h = iri_forth (LeftTriple End) (AfterObjectIri End s p) (λ n. Object s p (objects.Iri n)) (λ o. Some (AfterObject (triple_of s p (Iri o)))) at c t v (λ n k. k) (λ o k. (AfterObject (triple_of s p (Iri o)), refl, k)) h
+
+  -- after a whole label of an object stands a space or a dot
+  object_apart : (m : MarkAt) (s : Term) (p o : List ℕ) (c : ℕ) (t : List ℕ) (v : Statement) → (c == 46) ≡ false → is_whole m ≡ true → AfterObjectLabel End s p o (c ∷ t) v → mark.step m c ≡ None
+  object_apart m s p o c t v f w (inl k) = spaced_apart m c w k.0
+  object_apart m s p o c t v f w (inr k) = let e = sym (same_eqb c 46 (dot_is (triple_of s p (Blank o)) c t v k).0) ∙ f in cc
+
+  label_goes : (s : Term) (p : List ℕ) (m : Marked) (c : ℕ) (t : List ℕ) (v : Statement) → (is_whole m.at && c == 46) ≡ false → WithinMark (AfterObjectLabel End s p) m (c ∷ t) v → Next (line.in_mark (λ n. Object s p (objects.Label n)) (λ o c. line.after_object (triple_of s p (Blank o)) c) m c) t v
+  label_goes s p m c t v f h =
+      mark_forth (LeftTriple End) (AfterObjectLabel End s p) (λ n. Object s p (objects.Label n)) (λ o c. line.after_object (triple_of s p (Blank o)) c) m c t v (λ n k. k) (λ o k. after_object (triple_of s p (Blank o)) c t v k)
+      (λ o b k. object_apart m.at s p o c t v (no_dot (is_whole m.at) (c == 46) b f) b k) h
+
+  in_object_label : (s : Term) (p : List ℕ) (m : Marked) (c : ℕ) (t : List ℕ) (v : Statement) → is_label_state m.at ≡ true → WithinMark (AfterObjectLabel End s p) m (c ∷ t) v → Next (line.in_object_label s p m c) t v
+  in_object_label s p m c t v g h =
+      ⊎_elim
+      (λ (b : (is_whole m.at && c == 46) ≡ true).
+      let k = both_parts (is_whole m.at) (c == 46) b in
+      let at = whole_label m.at g k.0 in
+      let same : m ≡ record { at = marks.InLabel; text = m.text } = λ i. record { at = at i; text = m.text } in
+      let h1 : WithinMark (AfterObjectLabel End s p) m (46 ∷ t) v = subst (λ c. WithinMark (AfterObjectLabel End s p) m (c ∷ t) v) (eqb_same c 46 k.1) h in
+      let r : Next (line.in_object_label s p m c) t v = (Object s p (objects.Dot m.text), when _ _ _ b, subst (λ m. WithinMark (AfterObjectLabel End s p) m (46 ∷ t) v) same h1) in r)
+      (λ (b : (is_whole m.at && c == 46) ≡ false).
+      let n = label_goes s p m c t v b h in
+      let r : Next (line.in_object_label s p m c) t v = (n.0, unless _ _ _ _ b refl ∙ n.1, n.2) in r)
+      (decided (is_whole m.at && c == 46))
+
+  -- after a label and a dot
+  dot_own : Endings End → (s : Term) (p label : List ℕ) (c : ℕ) (t own rest : List ℕ) (v : Statement) → wants marks.InLabel own ≡ true → AfterObjectLabel End s p (label ++ own) rest v → 46 ∷ c ∷ t ≡ own ++ rest → Next (line.after_dot s p label c) t v
+  dot_own x s p label c t [] rest v w k e =
+      let stated = triple_of s p (Blank label) in
+      let k1 : AfterObjectLabel End s p label (46 ∷ c ∷ t) v = subst (λ l. AfterObjectLabel End s p l (46 ∷ c ∷ t) v) (append-nil label) (subst (λ r. AfterObjectLabel End s p (label ++ []) r v) (sym e) k) in
+      ⊎_elim
+      (λ (d : (is_space 46 ≡ true) × Dotted End stated (c ∷ t) v). let z = d.0 in let r : Next (line.after_dot s p label c) t v = cc in r)
+      (λ (d : Dot End stated (46 ∷ c ∷ t) v).
+      let q = dot_is stated 46 (c ∷ t) v d in
+      let n = x.forth stated c t q.1.0 in
+      let stops = x.apart c t q.1.0 in
+      let r : Next (line.after_dot s p label c) t v = (
+        n.0,
+        ap (λ o. line.settle_dot s p label c (option_map (marked (record { at = marks.Dotted; text = label ++ 46 ∷ [] }) c) o)) stops ∙ n.1,
+        subst (λ v. LeftTriple End n.0 t v) (sym q.1.1) n.2,
+      ) in r)
+      k1
+  dot_own x s p label c t (d ∷ []) rest v w k e =
+      let h = heads 46 d (c ∷ t) rest e in
+      let z : wants marks.InLabel (46 ∷ []) ≡ true = subst (λ d. wants marks.InLabel (d ∷ []) ≡ true) (sym h.0) w in cc
+  dot_own x s p label c t (d ∷ b ∷ own) rest v w k e =
+      let h = heads 46 d (c ∷ t) (b ∷ own ++ rest) e in
+      let g = heads c b t (own ++ rest) h.1 in
+      let w1 : wants marks.InLabel (46 ∷ c ∷ own) ≡ true = subst (λ b. wants marks.InLabel (46 ∷ b ∷ own) ≡ true) (sym g.0) (subst (λ d. wants marks.InLabel (d ∷ b ∷ own) ≡ true) (sym h.0) w) in
+      let k1 : AfterObjectLabel End s p (label ++ 46 ∷ c ∷ own) rest v = subst (λ b. AfterObjectLabel End s p (label ++ 46 ∷ b ∷ own) rest v) (sym g.0) (subst (λ d. AfterObjectLabel End s p (label ++ d ∷ b ∷ own) rest v) (sym h.0) k) in
+      let n = mark_exact.forth marks.Dotted c own tt w1 in
+      let m : Marked = record { at = marks.Dotted; text = label ++ 46 ∷ [] } in
+      let text : (marked m c n.0).text ++ drop (marks_left n.0) own ≡ label ++ 46 ∷ c ∷ own = same_text marks.Dotted n.0 (label ++ 46 ∷ []) c own n.1 ∙ append_assoc label (46 ∷ []) (c ∷ own) in (
+        Object s p (objects.Label (marked m c n.0)),
+        ap (λ o. line.settle_dot s p label c (option_map (marked m c) o)) n.1,
+        record { own = own; rest = rest; is = n.2; after = subst (λ l. AfterObjectLabel End s p l rest v) (sym text) k1; spelled = g.1 },
+      )
+
+  after_dot : Endings End → (s : Term) (p label : List ℕ) (c : ℕ) (t : List ℕ) (v : Statement) → WithinMark (AfterObjectLabel End s p) (record { at = marks.InLabel; text = label }) (46 ∷ c ∷ t) v → Next (line.after_dot s p label c) t v
+  after_dot x s p label c t v h = dot_own x s p label c t h.own h.rest v h.is h.after h.spelled
+
+  in_object_string : (s : Term) (p : List ℕ) (at : StringAt) (c : ℕ) (t : List ℕ) (v : Statement) → is_open_string at ≡ true → WithinString (λ lexical. lines.Suffix End s p lexical) at (c ∷ t) v → Next (line.in_object_string s p at c) t v
+  in_object_string s p at c t v g h =
+      string_forth (LeftTriple End) (λ lexical. lines.Suffix End s p lexical) (λ n. Object s p (objects.String n)) (λ lexical. Suffix s p lexical suffixes.Start) at c t v g (λ n k. k) (λ lexical k. k) h
+
+  abbrev AtObject : Term → List ℕ → ℕ → List ℕ → Statement → Type 0
+  AtObject s p c t v = (is_space c ≡ false) × Next (line.object s p c) t v
+
+  object : (s : Term) (p : List ℕ) (c : ℕ) (t : List ℕ) (v : Statement) → lines.Object End s p (c ∷ t) v → AtObject s p c t v
+  object s p c t v (inl k) =
+      let e = first_iri (AfterObjectIri End s p) c t v k in
+      let n = in_object s p iri_at.Start c t v (begin_iri k) in
+      (no_space c 60 e refl, (n.0, when _ _ _ (same_eqb c 60 e) ∙ n.1, n.2))
+  object s p c t v (inr (inl k)) =
+      let e = first_label (AfterObjectLabel End s p) c t v k in
+      let n = in_object_label s p label_start c t v refl (begin_label (AfterObjectLabel End s p) (c ∷ t) v k) in
+      (no_space c 95 e refl, (n.0, unless _ _ _ _ (not_this c 95 60 e refl) (unless _ _ _ _ (not_this c 95 34 e refl) refl) ∙ n.1, n.2))
+  object s p c t v (inr (inr k)) =
+      let e = string_first (λ lexical. lines.Suffix End s p lexical) c t v k in
+      let n = in_object_string s p string_at.Start c t v refl (begin_string (λ lexical. lines.Suffix End s p lexical) (c ∷ t) v k) in
+      (no_space c 34 e refl, (n.0, unless _ _ _ _ (not_this c 34 60 e refl) (when _ _ _ (same_eqb c 34 e)) ∙ n.1, n.2))
+
+  after_predicate : (s : Term) (p : List ℕ) (c : ℕ) (t : List ℕ) (v : Statement) → Spaced (lines.Object End s p) (c ∷ t) v → Next (line.after_predicate s p c) t v
+  after_predicate s p c t v h = spaced_forth (LeftTriple End) (lines.Object End s p) (AfterPredicate s p) _ c t v (λ k. k) (λ k. object s p c t v k) h
+
+  tag_apart : (m : MarkAt) (stated : Statement) (c : ℕ) (t : List ℕ) (v : Statement) → is_tag_state m ≡ true → is_whole m ≡ true → Dotted End stated (c ∷ t) v → mark.step m c ≡ None
+  tag_apart m stated c t v g w (inl k) = spaced_apart m c w k.0
+  tag_apart m stated c t v g w (inr k) = stops_at m c 46 (dot_is stated c t v k).0 (tag_stops m g)
+
+  in_tag : (s : Term) (p lexical : List ℕ) (m : Marked) (c : ℕ) (t : List ℕ) (v : Statement) → is_tag_state m.at ≡ true → WithinMark (AfterTag End s p lexical) m (c ∷ t) v → Next (line.in_tag s p lexical m c) t v
+  in_tag s p lexical m c t v g h =
+      mark_forth (LeftTriple End) (AfterTag End s p lexical) (λ n. Suffix s p lexical (suffixes.Tag n)) (λ tag c. line.after_object (triple_of s p (tagged_of lexical tag)) c) m c t v (λ n k. k) (λ tag k. after_object (triple_of s p (tagged_of lexical tag)) c t v k)
+      (λ tag b k. tag_apart m.at (triple_of s p (tagged_of lexical tag)) c t v g b k) h
+
+  abbrev AtSuffix : Term → List ℕ → List ℕ → ℕ → List ℕ → Statement → Type 0
+  AtSuffix s p lexical c t v =
+      (is_space c ≡ false) × Next (cond (c == 46) (Some (Ended (triple_of s p (string_of lexical)))) (cond (c == 94) (Some (Suffix s p lexical suffixes.Caret)) (line.in_tag s p lexical tag_start c))) t v
+
+  at_suffix : (s : Term) (p lexical : List ℕ) (c : ℕ) (t : List ℕ) (v : Statement) → AfterSpaces End s p lexical (c ∷ t) v → AtSuffix s p lexical c t v
+  at_suffix s p lexical c t v (inl k) =
+      let d = dot_is (triple_of s p (string_of lexical)) c t v k in
+      (no_space c 46 d.0 refl, (Ended (triple_of s p (string_of lexical)), when _ _ _ (same_eqb c 46 d.0), d.1))
+  at_suffix s p lexical c t v (inr (inl k)) =
+      let e = first_tag (AfterTag End s p lexical) c t v k in
+      let n = in_tag s p lexical tag_start c t v refl (begin_tag (AfterTag End s p lexical) (c ∷ t) v k) in
+      (no_space c 64 e refl, (n.0, unless _ _ _ _ (not_this c 64 46 e refl) (unless _ _ _ _ (not_this c 64 94 e refl) refl) ∙ n.1, n.2))
+  at_suffix s p lexical c t v (inr (inr k)) =
+      let h = heads c 94 t (94 ∷ k.rest) k.spelled in
+      let r : LeftTriple End (Suffix s p lexical suffixes.Caret) t v = record { rest = k.rest; after = k.after; spelled = ap (λ t. 94 ∷ t) h.1 } in
+      (no_space c 94 h.0 refl, (Suffix s p lexical suffixes.Caret, unless _ _ _ _ (not_this c 94 46 h.0 refl) (when _ _ _ (same_eqb c 94 h.0)), r))
+
+  after_string : (s : Term) (p lexical : List ℕ) (c : ℕ) (t : List ℕ) (v : Statement) → lines.Suffix End s p lexical (c ∷ t) v → Next (line.after_string s p lexical c) t v
+  after_string s p lexical c t v h = spaced_forth (LeftTriple End) (AfterSpaces End s p lexical) (Suffix s p lexical suffixes.Start) _ c t v (λ k. k) (λ k. at_suffix s p lexical c t v k) h
+
+  caret : (s : Term) (p lexical : List ℕ) (c : ℕ) (t : List ℕ) (v : Statement) → Carets End s p lexical (94 ∷ c ∷ t) v → Next (line.caret s p lexical c) t v
+  caret s p lexical c t v h =
+      let k = heads 94 94 (c ∷ t) (94 ∷ h.rest) h.spelled in
+      let g = heads c 94 t h.rest k.1 in
+      (Suffix s p lexical suffixes.Carets, when _ _ _ (same_eqb c 94 g.0), subst (λ t. Datatype End s p lexical t v) (sym g.1) h.after)
+
+  in_datatype : (s : Term) (p lexical : List ℕ) (at : IriAt) (c : ℕ) (t : List ℕ) (v : Statement) → WithinIri (AfterDatatype End s p lexical) at (c ∷ t) v → Next (line.in_datatype s p lexical at c) t v
+  in_datatype s p lexical at c t v h =
+      iri_forth (LeftTriple End) (AfterDatatype End s p lexical) (λ n. Suffix s p lexical (suffixes.Datatype n)) (line.typed s p lexical) at c t v (λ n k. k)
+      (λ d k. (AfterObject (triple_of s p (typed_of lexical d)), unless _ _ _ _ k.0 refl, k.1)) h
+
+  abbrev TypedRest : Term → List ℕ → List ℕ → List ℕ → List ℕ → Statement → Type 0
+  TypedRest s p lexical datatype = Dotted End (triple_of s p (typed_of lexical datatype))
+
+  begin_datatype : (s : Term) (p lexical text : List ℕ) (v : Statement) → Then DatatypeToken (TypedRest s p lexical) text v → Then (IriToken true) (AfterDatatype End s p lexical) text v
+  begin_datatype s p lexical text v h = record { own = h.own; value = h.value; rest = h.rest; token = h.token.0; after = (h.token.1, h.after); spelled = h.spelled }
+
+  after_carets : (s : Term) (p lexical : List ℕ) (c : ℕ) (t : List ℕ) (v : Statement) → Datatype End s p lexical (c ∷ t) v → Next (line.after_carets s p lexical c) t v
+  after_carets s p lexical c t v h =
+      spaced_forth (LeftTriple End) (Then DatatypeToken (TypedRest s p lexical)) (Suffix s p lexical suffixes.Carets) _ c t v (λ k. k)
+      (λ k. let i = begin_datatype s p lexical (c ∷ t) v k in
+      (no_space c 60 (first_iri (AfterDatatype End s p lexical) c t v i) refl, in_datatype s p lexical iri_at.Start c t v (begin_iri i)))
+      h
+
+  -- each state of a triple, up to its dot
+  pub triple_forth : Endings End → (s : LineAt) (c : ℕ) (t : List ℕ) (v : Statement) → Good s → is_before_end s ≡ true → LeftTriple End s (c ∷ t) v → Next (line.step s c) t v
+  triple_forth x Begin c t v g b h = begin c t v h
+  triple_forth x (Subject (subjects.Iri at)) c t v g b h = in_subject at c t v h
+  triple_forth x (Subject (subjects.Label m)) c t v g b h = in_subject_label m c t v h
+  triple_forth x (AfterSubject s) c t v g b h = after_subject s c t v h
+  triple_forth x (Predicate s at) c t v g b h = in_predicate s at c t v h
+  triple_forth x (AfterPredicate s p) c t v g b h = after_predicate s p c t v h
+  triple_forth x (Object s p (objects.Iri at)) c t v g b h = in_object s p at c t v h
+  triple_forth x (Object s p (objects.Label m)) c t v g b h = in_object_label s p m c t v g h
+  triple_forth x (Object s p (objects.Dot label)) c t v g b h = after_dot x s p label c t v h
+  triple_forth x (Object s p (objects.String at)) c t v g b h = in_object_string s p at c t v g.going h
+  triple_forth x (Suffix s p lexical suffixes.Start) c t v g b h = after_string s p lexical c t v h
+  triple_forth x (Suffix s p lexical (suffixes.Tag m)) c t v g b h = in_tag s p lexical m c t v g h
+  triple_forth x (Suffix s p lexical suffixes.Caret) c t v g b h = caret s p lexical c t v h
+  triple_forth x (Suffix s p lexical suffixes.Carets) c t v g b h = after_carets s p lexical c t v h
+  triple_forth x (Suffix s p lexical (suffixes.Datatype at)) c t v g b h = in_datatype s p lexical at c t v h
+  triple_forth x (AfterObject stated) c t v g b h = after_object stated c t v h
+  triple_forth x (Ended stated) c t v g b h = cc
+  triple_forth x (Comment fact) c t v g b h = cc

@@ -1,0 +1,12 @@
+use Rattle.std.proofs.Common.{◌++◌, ℕ, List, IfErr, sym, ◌∙◌, ap, subst, append_assoc}
+use Rattle.std.specs.Str.{encode_utf8_all}
+use Rattle.bye_ntriples.specs.Feeding.{ReadingAt, HasCome, IsRefusal}
+use Rattle.bye_ntriples.proofs.reader.Reading.feed.Goals as goal
+
+pub returns-clause-err : goal.returns-clause-err
+returns-clause-err c bytes h =
+    let k = subst (λ (r : ReadingAt). HasCome bytes r) (sym c.self.view_is) h in
+    let whole = append_assoc (encode_utf8_all k.front) c.self.inside.left.items c.args.piece.now in
+    let same = c.as_slice.ensures.value ∙ c.in_ok-append.ensures ∙ ap (λ v. v.items ++ c.args.piece.now) c.replace-bytes.ensures.value in
+    let together = ap (λ l. encode_utf8_all k.front ++ l) same ∙ sym whole ∙ ap (λ l. l ++ c.args.piece.now) (sym k.parts) in
+    subst (λ (l : List ℕ). IfErr c.take-2.result (IsRefusal l)) together (c.take-2.ensures.err k.front k.led)

@@ -1,0 +1,56 @@
+use Rattle.std.proofs.Common.{◌≡◌, ◌+◌, ◌++◌, ℕ, List, Bool, true, false, length, sym, ◌∙◌, ap, subst, arith}
+use Rattle.std.specs.Str.{chars, encode_utf8_all, IsUtf8}
+use Rattle.bye_ntriples.specs.DocSteps.{walk, CannotWalk}
+use Rattle.bye_ntriples.specs.Feeding.{ReadingAt, HasCome, LedTo}
+use Rattle.bye_ntriples.proofs.Feeds.{cut_of, text_length, walk_fault, refuses_left, takes}
+use Rattle.bye_ntriples.proofs.reader.Reading.take.Goals as goal
+
+clash : (b : Bool) → b ≡ false → b ≡ true → ⊥
+clash true f e = cc
+clash false f e = cc
+
+pub walk-requires : goal.walk-requires
+walk-requires c =
+    let utf8 = subst IsUtf8 c.as_bytes.ensures.value c.as_bytes.ensures.utf8 in
+    let text = ap (λ t. length (encode_utf8_all t)) c.new.ensures ∙ text_length c.decode-decoded.result.text.now utf8 in
+    let same = ap length c.as_bytes.ensures.value in
+    omega (arith, text, same)
+
+pub returns-in-Err-clause-err : goal.returns-in-Err-clause-err
+returns-in-Err-clause-err c front led =
+    let text = c.decode-decoded.result.text.now in
+    let left = c.decode-decoded.result.left.now in
+    let utf8 = subst IsUtf8 c.as_bytes.ensures.value c.as_bytes.ensures.utf8 in
+    let here = subst (λ (r : ReadingAt). LedTo front r.doc r.place) (sym c.self.view_is) led in
+    let cut = cut_of front c.args.bytes.now text left c.self.inside.document c.self.inside.place here c.decode-decoded.ensures.parts utf8 c.decode-decoded.ensures.whole in
+    let total = c.self.inside.place + length c.as_bytes.result.now in
+    let sum = ap (λ n. c.self.inside.place + n) (ap length c.as_bytes.ensures.value ∙ sym (text_length text utf8)) in
+    walk_fault front c.args.bytes.now (chars text) left c.self.inside.document c.self.inside.place cut total c.in-Err.fault sum
+    (subst (λ t. CannotWalk total c.in-Err.fault (walk c.self.inside.document t)) c.new.ensures c.in-Err.ensures.err)
+
+pub returns-in-Err-judge-clause-err : goal.returns-in-Err-judge-clause-err
+returns-in-Err-judge-clause-err c front led =
+    let text = c.decode-decoded.result.text.now in
+    let left = c.decode-decoded.result.left.now in
+    let utf8 = subst IsUtf8 c.as_bytes.ensures.value c.as_bytes.ensures.utf8 in
+    let here = subst (λ (r : ReadingAt). LedTo front r.doc r.place) (sym c.self.view_is) led in
+    let cut = cut_of front c.args.bytes.now text left c.self.inside.document c.self.inside.place here c.decode-decoded.ensures.parts utf8 c.decode-decoded.ensures.whole in
+    let total = c.self.inside.place + length c.as_bytes.result.now in
+    let sum = ap (λ n. c.self.inside.place + n) (ap length c.as_bytes.ensures.value ∙ sym (text_length text utf8)) in
+    let went = ap (walk c.self.inside.document) (sym c.new.ensures) ∙ c.in_default.ensures.ok in
+    refuses_left front c.args.bytes.now (chars text) left c.self.inside.document c.self.inside.place cut c.walk.new.self c.decode-decoded.result.begins total c.in-Err-judge.fault sum went
+    (λ f b. clash c.decode-decoded.result.begins f (c.decode-decoded.ensures.begins.1 b)) c.in-Err-judge.ensures.err
+
+pub returns-clause-ok : goal.returns-clause-ok
+returns-clause-ok c front led =
+    let text = c.decode-decoded.result.text.now in
+    let left = c.decode-decoded.result.left.now in
+    let utf8 = subst IsUtf8 c.as_bytes.ensures.value c.as_bytes.ensures.utf8 in
+    let here = subst (λ (r : ReadingAt). LedTo front r.doc r.place) (sym c.self.view_is) led in
+    let cut = cut_of front c.args.bytes.now text left c.self.inside.document c.self.inside.place here c.decode-decoded.ensures.parts utf8 c.decode-decoded.ensures.whole in
+    let total = c.self.inside.place + length c.as_bytes.result.now in
+    let sum = ap (λ n. c.self.inside.place + n) (ap length c.as_bytes.ensures.value ∙ sym (text_length text utf8)) in
+    let went = ap (walk c.self.inside.document) (sym c.new.ensures) ∙ c.in_default.ensures.ok in
+    let kept = c.in_ok-append.ensures ∙ ap (λ l. l ++ left) c.clear.ensures.items in
+    subst (λ (l : List ℕ). HasCome (encode_utf8_all front ++ c.args.bytes.now) (record { doc = c.walk.new.self; left = l; place = total })) (sym kept)
+    (takes front c.args.bytes.now (chars text) left c.self.inside.document c.self.inside.place cut c.walk.new.self c.decode-decoded.result.begins total sum went (λ b. c.decode-decoded.ensures.begins.0 b) c.in_default-judge.ensures.ok)

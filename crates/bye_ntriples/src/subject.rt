@@ -1,0 +1,81 @@
+ghost use Rattle.bye_ntriples.specs.Triples.{triple_of};
+ghost use Rattle.bye_terms.specs.declared.term.Term.TheVariants as terms;
+ghost use Rattle.std.specs.Prelude.{◌≡◌};
+
+use bye_terms::{Iri, Label, Term, Triple};
+use std::marker::Model;
+
+/// A term that may be a subject: an IRI or a blank node (RDF 1.1 Concepts, section 3.1).
+#[derive(Debug, Drop)]
+pub struct Subject {
+    term: Term,
+}
+
+impl Model for Subject {
+    ghost use Rattle.std.specs.Prelude.{◌≡◌, true};
+    ghost use Rattle.bye_terms.specs.Terms.{is_subject};
+    ghost use Rattle.bye_terms.specs.declared.term.Term.{Term};
+
+    ghost Value = { Term };
+
+    ghost view = { λ s. s.term };
+
+    ghost invariant = { λ s. is_subject s.term ≡ true };
+}
+
+impl Subject {
+    /// An IRI.
+    pub fn iri(iri: Iri) -> Subject
+        ensures { result ≡ terms.Iri iri }
+    {
+        Subject {
+            term: Term::Iri(iri),
+        }
+    }
+
+    /// A blank node.
+    pub fn blank(label: Label) -> Subject
+        ensures { result ≡ terms.Blank label }
+    {
+        Subject {
+            term: Term::Blank(label),
+        }
+    }
+}
+
+/// A triple by its parts.
+#[derive(Debug, Drop)]
+pub struct Parts {
+    s: Subject,
+    p: Iri,
+    o: Term,
+}
+
+impl Model for Parts {
+    ghost use Rattle.bye_terms.specs.Terms.{Statement};
+    ghost use Rattle.bye_ntriples.specs.Triples.{triple_of};
+
+    ghost Value = { Statement };
+
+    ghost view = { λ t. triple_of t.s t.p t.o };
+}
+
+impl Parts {
+    /// The triple of these parts.
+    pub fn new(s: Subject, p: Iri, o: Term) -> Parts
+        ensures { result ≡ triple_of s p o }
+    {
+        Parts { s, p, o }
+    }
+
+    /// The triple.
+    pub fn into_triple(self) -> Triple
+        ensures { result ≡ self }
+    {
+        Triple {
+            s: self.s.term,
+            p: Term::Iri(self.p),
+            o: self.o,
+        }
+    }
+}
