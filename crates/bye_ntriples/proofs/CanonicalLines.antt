@@ -20,7 +20,7 @@ use Rattle.bye_ntriples.specs.Triples.{triple_of, string_of, tagged_of, typed_of
 use Rattle.bye_ntriples.proofs.SameLines.{tokens}
 
 -- no space, or one
-here : {V : Type 0} (L : List ℕ → V → Type 0) (text : List ℕ) (v : V) → L text v → Spaced L text v
+pub here : {V : Type 0} (L : List ℕ → V → Type 0) (text : List ℕ) (v : V) → L text v → Spaced L text v
 here L [] v h = h
 here L (c ∷ cs) v h = inr h
 

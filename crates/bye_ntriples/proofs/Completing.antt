@@ -136,6 +136,20 @@ by_dot front left d v m scalars e over b dot =
           no_rest k.more h.0;
     }
 
+-- a line tells of one triple at most
+pub held_one : (m : LineAt) → held m ≤ 1
+held_one Begin = omega arith
+held_one (Subject q) = omega arith
+held_one (AfterSubject s) = omega arith
+held_one (Predicate s q) = omega arith
+held_one (AfterPredicate s p) = omega arith
+held_one (Object s p q) = omega arith
+held_one (Suffix s p lexical q) = omega arith
+held_one (AfterObject stated) = omega arith
+held_one (Ended stated) = omega arith
+held_one (Comment None) = omega arith
+held_one (Comment (Some v)) = omega arith
+
 pub step_passes : (front left : List ℕ) (d n : DocAt) (c : ℕ) → all_scalars front ≡ true → IsScalar c → run step start front ≡ Some d → step d c ≡ Some n → count d ≤ triple_limit → triple_limit < count n → HasPassed (encode_utf8_all (front ++ c ∷ []) ++ left)
 step_passes front left d n c scalars is e s within over =
     let R : Type 0 = HasPassed (encode_utf8_all (front ++ c ∷ []) ++ left) in
@@ -162,23 +176,10 @@ step_passes front left d n c scalars is e s within over =
         (λ (h : (t : Term) × (p : List ℕ) × (label : List ℕ) × (d.at ≡ dot_state t p label)). by_next front left d c h.0 h.1 h.2 scalars is e within (omega (arith, z, l, over)) h.3 (end_shuts c b))
         (told_or_dot d.at v f)
 
-    one : (m : LineAt) → held m ≤ 1
-    one Begin = omega arith
-    one (Subject q) = omega arith
-    one (AfterSubject s) = omega arith
-    one (Predicate s q) = omega arith
-    one (AfterPredicate s p) = omega arith
-    one (Object s p q) = omega arith
-    one (Suffix s p lexical q) = omega arith
-    one (AfterObject stated) = omega arith
-    one (Ended stated) = omega arith
-    one (Comment None) = omega arith
-    one (Comment (Some v)) = omega arith
-
     by_step : (m : LineAt) → count (line_moved d.done m) ≡ count n → line.step d.at c ≡ Some m → TellsBy d.at c m → is_blank d.at ≡ false → HasPassed (encode_utf8_all (front ++ c ∷ []) ++ left)
     by_step m z f (inl (v, at, dot)) b =
-        let u = one m in
+        let u = held_one m in
         let none : held d.at ≡ 0 = omega (arith, z, u, within, over) in
         subst (λ c. HasPassed (encode_utf8_all (front ++ c ∷ []) ++ left)) (sym dot) (by_dot front left d v m scalars e (omega (arith, z, u, over)) (before_end d.at none b) (ap (line.step d.at) (sym dot) ∙ f ∙ ap Some at))
-    by_step m z f (inr (inl (t, p, label, at, shut))) b = let u = one m in by_next front left d c t p label scalars is e within (omega (arith, z, u, over)) at shut
-    by_step m z f (inr (inr h)) b = let u = one m in absurd (omega (arith, z, u, h, within, over))
+    by_step m z f (inr (inl (t, p, label, at, shut))) b = let u = held_one m in by_next front left d c t p label scalars is e within (omega (arith, z, u, over)) at shut
+    by_step m z f (inr (inr h)) b = let u = held_one m in absurd (omega (arith, z, u, h, within, over))

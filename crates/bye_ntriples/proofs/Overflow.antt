@@ -387,62 +387,68 @@ front_opens = record { goes = λ own rest g. (g.further, tt, g.goes) }
 abbrev pub Shut : (List ℕ → Type 0) → List ℕ → Type 0
 Shut Allowed left = (further : List ℕ) → Allowed further → (c : ℕ) (behind : List ℕ) → IsScalar c → left ++ further ≡ encode_utf8 c ++ behind → mark.step marks.Dotted c ≡ None
 
+-- one triple waits at most, and where one does, none was told of
+one_waits : (n : LineAt) → pending n ≤ 1
+one_waits Begin = omega arith
+one_waits (Subject q) = omega arith
+one_waits (AfterSubject s) = omega arith
+one_waits (Predicate s q) = omega arith
+one_waits (AfterPredicate s p) = omega arith
+one_waits (Object s p (objects.Iri q)) = omega arith
+one_waits (Object s p (objects.Label m)) = mark_one m.at
+  where
+    mark_one : (m : MarkAt) → mark_pending m ≤ 1
+    mark_one marks.Name = omega arith
+    mark_one marks.InName = omega arith
+    mark_one marks.Label = omega arith
+    mark_one marks.Underscore = omega arith
+    mark_one marks.Colon = omega arith
+    mark_one marks.InLabel = omega arith
+    mark_one marks.Dotted = omega arith
+    mark_one marks.Tag = omega arith
+    mark_one marks.Sign = omega arith
+    mark_one marks.Letters = omega arith
+    mark_one marks.Hyphen = omega arith
+    mark_one marks.Subtag = omega arith
+one_waits (Object s p (objects.Dot label)) = omega arith
+one_waits (Object s p (objects.String q)) = omega arith
+one_waits (Suffix s p lexical q) = omega arith
+one_waits (AfterObject stated) = omega arith
+one_waits (Ended stated) = omega arith
+one_waits (Comment fact) = omega arith
+
+many : (done : List Statement) (n : LineAt) → held n ≡ 0 → 0 < pending n → triple_limit < (length done + held n) + pending n → triple_limit ≤ length done
+many done n z some over = let k = one_waits n in omega (arith, z, over, k)
+
 -- a triple too many waits at a dot, and nothing goes on there
-pub over_passes : (Open : List ℕ → List ℕ → Type 0) (Allowed : List ℕ → Type 0) (front left : List ℕ) (d : DocAt) → Opens Open Allowed → all_scalars front ≡ true → run step start front ≡ Some d → count d ≤ triple_limit → triple_limit < count d + pending d.at → Shut Allowed left
+passes_at : (Open : List ℕ → List ℕ → Type 0) (Allowed : List ℕ → Type 0) (front left : List ℕ) (d : DocAt) → Opens Open Allowed → all_scalars front ≡ true → Shut Allowed left → triple_limit ≤ length d.done → Pending front d
     → PassesWhere Open (encode_utf8_all front ++ left)
-over_passes Open Allowed front left d opens scalars e within over shut =
-    let some : 0 < pending d.at = omega (arith, within, over) in
-    let q = waits front d e some in
-    let z = no_held d.at some in
+passes_at Open Allowed front left d opens scalars shut many q =
     let text = q.lines ++ q.own in
-    let front_is : encode_utf8_all front ++ left ≡ encode_utf8_all text ++ (encode_utf8_all q.dots ++ left) =
-    ap (λ t. encode_utf8_all t ++ left) q.parts ∙ ap (λ t. t ++ left) (encodes-append text q.dots) ∙ append_assoc (encode_utf8_all text) (encode_utf8_all q.dots) left in
+    let stated = triple_of q.subject q.predicate (Blank q.label) in
+    let cut : encode_utf8_all front ++ left ≡ (encode_utf8_all text ++ encode_utf8_all q.dots) ++ left = ap (λ t. encode_utf8_all t ++ left) q.parts ∙ ap (λ t. t ++ left) (encodes-append text q.dots) in
+    let at : UpToDot (q.own ++ []) stated = (up_takes Begin (dot_state q.subject q.predicate q.label) q.own [] stated tt q.leads refl (dot_left Nothing q.subject q.predicate q.label refl)).0 in
     record {
       lines = q.lines;
       own = q.own;
       rest = encode_utf8_all q.dots ++ left;
-      parts = front_is;
+      parts = cut ∙ append_assoc (encode_utf8_all text) (encode_utf8_all q.dots) left;
       scalars = front_scalars text q.dots (ap all_scalars (sym q.parts) ∙ scalars);
       before = d.done;
       whole = q.before;
       ended = q.ended;
-      many = many d.at z some over;
-      triple = triple_of q.subject q.predicate (Blank q.label);
-      stated = subst (λ t. UpToDot t (triple_of q.subject q.predicate (Blank q.label))) (append-nil q.own) (up_takes Begin (dot_state q.subject q.predicate q.label) q.own [] (triple_of q.subject q.predicate (Blank q.label)) tt q.leads refl (dot_left Nothing q.subject q.predicate q.label refl)).0;
+      many = many;
+      triple = stated;
+      stated = subst (λ t. UpToDot t stated) (append-nil q.own) at;
       settled = λ g.
           let k = opens.goes q.own (encode_utf8_all q.dots ++ left) g in
-          let w = goes_where front (left ++ k.0) d q scalars (subst (λ r. GoesOn q.own r) (append_assoc (encode_utf8_all q.dots) left k.0) k.2) in
+          let goes : GoesOn q.own (encode_utf8_all q.dots ++ (left ++ k.0)) = subst (λ r. GoesOn q.own r) (append_assoc (encode_utf8_all q.dots) left k.0) k.2 in
+          let w = goes_where front (left ++ k.0) d q scalars goes in
           none_some (sym (shut k.0 k.1 w.0 w.1 w.2 w.3) ∙ w.4.1);
     }
-  where
-    one : (n : LineAt) → pending n ≤ 1
-    one Begin = omega arith
-    one (Subject q) = omega arith
-    one (AfterSubject s) = omega arith
-    one (Predicate s q) = omega arith
-    one (AfterPredicate s p) = omega arith
-    one (Object s p (objects.Iri q)) = omega arith
-    one (Object s p (objects.Label m)) = mark_one m.at
-      where
-        mark_one : (m : MarkAt) → mark_pending m ≤ 1
-        mark_one marks.Name = omega arith
-        mark_one marks.InName = omega arith
-        mark_one marks.Label = omega arith
-        mark_one marks.Underscore = omega arith
-        mark_one marks.Colon = omega arith
-        mark_one marks.InLabel = omega arith
-        mark_one marks.Dotted = omega arith
-        mark_one marks.Tag = omega arith
-        mark_one marks.Sign = omega arith
-        mark_one marks.Letters = omega arith
-        mark_one marks.Hyphen = omega arith
-        mark_one marks.Subtag = omega arith
-    one (Object s p (objects.Dot label)) = omega arith
-    one (Object s p (objects.String q)) = omega arith
-    one (Suffix s p lexical q) = omega arith
-    one (AfterObject stated) = omega arith
-    one (Ended stated) = omega arith
-    one (Comment fact) = omega arith
 
-    many : (n : LineAt) → held n ≡ 0 → 0 < pending n → triple_limit < (length d.done + held n) + pending n → triple_limit ≤ length d.done
-    many n z some over = let k = one n in omega (arith, z, over, k)
+pub over_passes : (Open : List ℕ → List ℕ → Type 0) (Allowed : List ℕ → Type 0) (front left : List ℕ) (d : DocAt) → Opens Open Allowed → all_scalars front ≡ true → run step start front ≡ Some d → count d ≤ triple_limit → triple_limit < count d + pending d.at → Shut Allowed left
+    → PassesWhere Open (encode_utf8_all front ++ left)
+over_passes Open Allowed front left d opens scalars e within over shut =
+    let some : 0 < pending d.at = omega (arith, within, over) in
+    passes_at Open Allowed front left d opens scalars shut (many d.done d.at (no_held d.at some) some over) (waits front d e some)

@@ -10,6 +10,7 @@ pub mod DocSteps
 pub mod Judging
 pub mod Feeding
 pub mod Pieces
+pub mod PlainLines
 pub mod Laws
 pub mod Writing
 pub mod Keys

@@ -11,6 +11,7 @@ ghost use Rattle.std.specs.Str.{encode_utf8_all};
 
 use crate::fault::NtErr;
 use crate::line::{LineAt, ObjectAt, is_line_end, last, step};
+use crate::plain::plain_line;
 use crate::subject::Parts;
 use bye_terms::{Cursor, Memory, Triple, keep};
 use std::alloc::Global;
@@ -63,6 +64,12 @@ impl Present {
     {
         self.states.clear();
         keep(&mut self.states, at)
+    }
+
+    fn is_begin(&self) -> bool
+        ensures { result ≡ true → self.now ≡ lines.Begin }
+    {
+        self.states.is_empty()
     }
 
     fn get(&self) -> Option<&LineAt>
@@ -230,6 +237,24 @@ impl Document {
         Ok(())
     }
 
+    /// Takes a whole line at once, where the next one has no escapes. False where it takes none.
+    fn take_line<'a>(&mut self, alloc: Global, rest: &mut Cursor<'a>) -> Result<bool, Memory>
+        ensures same { IfOk result (λ _. walk self.old rest.old ≡ walk self.new rest.new) }
+        ensures taken { IfOk result (λ taken. if_one taken + length (encode_utf8_all rest.new) ≤ length (encode_utf8_all rest.old)) }
+        ensures kept { IfOk result (λ taken. taken ≡ false → rest.new ≡ rest.old) }
+    {
+        if !self.at.is_begin() || self.triples.len() >= TRIPLE_LIMIT {
+            return Ok(false);
+        }
+        let mut after = Cursor::new(rest.rest());
+        let Some(triple) = plain_line(alloc, &mut after)? else {
+            return Ok(false);
+        };
+        keep(&mut self.triples, triple.into_triple())?;
+        *rest = after;
+        Ok(true)
+    }
+
     /// Takes more characters, which end at so many bytes. After a refusal the document is spoiled.
     pub fn walk(&mut self, alloc: Global, mut rest: Cursor<'_>, total: usize) -> Result<(), NtErr>
         requires { length (encode_utf8_all rest) ≤ total }
@@ -237,6 +262,9 @@ impl Document {
         ensures err { IfErr result (λ e. CannotWalk total e (walk self.old rest.entry)) }
     {
         loop {
+            if self.take_line(alloc, &mut rest)? {
+                continue;
+            }
             let here = total - rest.len();
             let Some(c) = rest.next() else {
                 return Ok(());

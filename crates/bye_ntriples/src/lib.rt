@@ -7,6 +7,7 @@ mod keys;
 mod laws;
 mod line;
 mod pieces;
+mod plain;
 mod reader;
 mod subject;
 mod token;

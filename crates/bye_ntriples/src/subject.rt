@@ -41,6 +41,13 @@ impl Subject {
             term: Term::Blank(label),
         }
     }
+
+    /// The term, given up.
+    pub fn into_term(self) -> Term
+        ensures { result ≡ self }
+    {
+        self.term
+    }
 }
 
 /// A triple by its parts.

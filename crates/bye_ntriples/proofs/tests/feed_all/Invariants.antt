@@ -1,4 +1,4 @@
-use Rattle.std.proofs.Common.{ℕ, length}
+use Rattle.std.proofs.Common.{length}
 use Rattle.bye_ntriples.specs.Pieces.{HasRoom}
 use Rattle.bye_ntriples.proofs.tests.feed_all.Given as goal
 
