@@ -10,6 +10,18 @@ use Rattle.bye_cli.specs.declared.outcome.Outcome.TheVariants as outcomes
 use Rattle.bye_cli.specs.declared.status.Status.{Status}
 use Rattle.bye_cli.specs.declared.status.Status.TheVariants as statuses
 
+-- the number of a status, with which the process ends
+abbrev pub number_of : Status → ℕ
+number_of statuses.Done = 0
+number_of statuses.Refused = 1
+number_of statuses.Words = 2
+number_of statuses.Document = 3
+number_of statuses.Limit = 4
+number_of statuses.ReadFault = 5
+number_of statuses.WriteFault = 6
+number_of statuses.Memory = 7
+number_of statuses.Example = 9
+
 -- a status at which nothing was written
 abbrev pub IsSilent : Status → Type 0
 IsSilent statuses.Done = ⊥

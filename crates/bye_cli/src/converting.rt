@@ -1,6 +1,6 @@
 //! The work of `convert`.
 
-ghost use Rattle.std.specs.Prelude.{List, IfOk, IfErr};
+ghost use Rattle.std.specs.Prelude.{◌≡◌, ◌≤◌, List, IfOk, IfErr};
 ghost use Rattle.bye_cli.specs.Words.{Word, IsConvert};
 ghost use Rattle.bye_cli.specs.Problem.{IsAnswer};
 ghost use Rattle.bye_cli.specs.Causes.{IsCause};
@@ -18,6 +18,8 @@ pub fn converted<F: Folder>(alloc: Global, folder: &mut F, name: &Text) -> Resul
     ensures answer { IfOk result (λ answer. (words : List Word) → IsConvert words name.now → IsAnswer (F.files folder.old) words answer) }
     ensures cause { IfErr result (λ refusal. (words : List Word) → IsConvert words name.now
         → IsCause (F.files folder.old) words (F.faults folder.old) (F.faults folder.new) refusal) }
+    ensures files { F.files folder.new ≡ F.files folder.old }
+    ensures later { F.faults folder.old ≤ F.faults folder.new }
 {
     let graph = read_graph(alloc, folder, name)?;
     let bytes = write_triples(alloc, graph.as_slice())?;

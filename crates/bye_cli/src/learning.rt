@@ -1,6 +1,6 @@
 //! The work of `learn`.
 
-ghost use Rattle.std.specs.Prelude.{◌≡◌, ◌<◌, List, length, IfOk, IfErr};
+ghost use Rattle.std.specs.Prelude.{◌≡◌, ◌<◌, ◌≤◌, List, length, IfOk, IfErr};
 ghost use Rattle.bye_cli.specs.Words.{Word, IsLearn};
 ghost use Rattle.bye_cli.specs.Problem.{IsAnswer, IsRead, IsWritten, uncovered_line};
 ghost use Rattle.bye_cli.specs.Causes.{IsCause};
@@ -47,6 +47,8 @@ pub fn learned<F: Folder>(
     ensures answer { IfOk result (λ answer. (words : List Word) → IsLearn words names.entry.graph.now names.entry.wanted.now → IsAnswer (F.files folder.old) words answer) }
     ensures cause { IfErr result (λ refusal. (words : List Word) → IsLearn words names.entry.graph.now names.entry.wanted.now
         → IsCause (F.files folder.old) words (F.faults folder.old) (F.faults folder.new) refusal) }
+    ensures files { F.files folder.new ≡ F.files folder.old }
+    ensures later { F.faults folder.old ≤ F.faults folder.new }
 {
     let graph = read_graph(alloc, folder, names.graph)?;
     let wanted = read_wanted(alloc, folder, names.wanted)?;

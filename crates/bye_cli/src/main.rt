@@ -45,12 +45,11 @@ fn given(rt: &HostRuntime, alloc: Global) -> Result<Vec<Text>, Memory> {
 fn main(rt: HostRuntime) -> ExitCode {
     let alloc = rt.alloc();
     let Ok(words) = given(&rt, alloc) else {
-        return ExitCode::from(Status::Memory as u8);
+        return Status::Memory.exit_code();
     };
     let mut folder = RealFolder::new(&rt);
     let mut out = RealOut::new(io::writer(&rt));
     let stderr = rt.stderr();
     let mut err = RealErr::new(io::writer(&stderr));
-    let status = run_program(alloc, words.as_slice(), &mut folder, &mut out, &mut err);
-    ExitCode::from(status as u8)
+    run_program(alloc, words.as_slice(), &mut folder, &mut out, &mut err).exit_code()
 }

@@ -87,7 +87,10 @@ fn refusal_line(refusal: Refusal) -> Line
 
 /// Sends the line of a refusal, and nothing where there is an answer. That it could not be sent changes nothing.
 pub fn report<E: Sink>(outcome: Outcome, err: &mut E)
-    ensures { IsReport outcome (Rose (E.faults err.old) (E.faults err.new)) (E.sent err.old) (E.sent err.new) }
+    ensures sent { IsReport outcome (Rose (E.faults err.old) (E.faults err.new)) (E.sent err.old) (E.sent err.new) }
+    ensures later { E.faults err.old ≤ E.faults err.new }
+    ensures doors { E.doors err.new ≡ E.doors err.old }
+    ensures aside { E.aside err.new ≡ E.aside err.old }
 {
     match outcome {
         Outcome::Done => {}

@@ -1,6 +1,6 @@
 //! The top call.
 
-ghost use Rattle.std.specs.Prelude.{◌≡◌, ◌⊎◌, ◌↔◌, IfOk, IfErr, OnOk, OnErr};
+ghost use Rattle.std.specs.Prelude.{◌≡◌, ◌≤◌, ◌⊎◌, ◌↔◌, IfOk, IfErr, OnOk, OnErr};
 ghost use Rattle.std.specs.Io.KnownBytes.{Appends};
 ghost use Rattle.bye_io.specs.Bytes.{AppendsPart};
 ghost use Rattle.bye_io.specs.Counts.{Rose};
@@ -28,6 +28,8 @@ use std::alloc::Global;
 fn answer<F: Folder>(alloc: Global, words: &[Text], folder: &mut F) -> Result<Answer, Refusal>
     ensures answer { IfOk result (IsAnswer (F.files folder.old) words.now) }
     ensures cause { IfErr result (IsCause (F.files folder.old) words.now (F.faults folder.old) (F.faults folder.new)) }
+    ensures files { F.files folder.new ≡ F.files folder.old }
+    ensures later { F.faults folder.old ≤ F.faults folder.new }
 {
     match read_words(words) {
         Some(Command::Learn(names)) => learned(alloc, folder, names),
@@ -41,6 +43,9 @@ fn send<S: Sink>(answer: &Answer, out: &mut S) -> Result<(), Failed>
     ensures whole { OnOk result (Appends (S.sent out.old) (S.sent out.new) (output_of answer.now)) }
     ensures part { OnErr result (AppendsPart (S.sent out.old) (S.sent out.new) (output_of answer.now)) }
     ensures rose { OnErr result (Rose (S.faults out.old) (S.faults out.new)) }
+    ensures later { S.faults out.old ≤ S.faults out.new }
+    ensures doors { S.doors out.new ≡ S.doors out.old }
+    ensures aside { S.aside out.new ≡ S.aside out.old }
 {
     match answer {
         Answer::Query(text) => write_all(out, text.as_str().as_bytes()),
@@ -62,6 +67,11 @@ fn perform<F: Folder, S: Sink>(
     ensures write_rose { result ≡ Outcome.Failed refusals.WriteFault → Rose (S.faults out.old) (S.faults out.new) }
     ensures silent { IsSilent (outcome_status result) → S.sent out.new ≡ S.sent out.old }
     ensures failed { IsFailure (F.files folder.old) words.now (F.faults folder.old) (F.faults folder.new) result }
+    ensures files { F.files folder.new ≡ F.files folder.old }
+    ensures later { F.faults folder.old ≤ F.faults folder.new }
+    ensures out_later { S.faults out.old ≤ S.faults out.new }
+    ensures out_doors { S.doors out.new ≡ S.doors out.old }
+    ensures out_aside { S.aside out.new ≡ S.aside out.old }
 {
     let answer = match answer(alloc, words, folder) {
         Ok(answer) => answer,
@@ -120,6 +130,16 @@ pub fn run_program<F: Folder, S: Sink, E: Sink>(
     // Where moreover the output's count did not rise, a question with a row and a graph to convert are answered.
     ensures complete { IsQuiet (F.files folder.old) (F.faults folder.old) (F.faults folder.new) → ¬ (Rose (S.faults out.old) (S.faults out.new))
         → IsAskedCase (F.files folder.old) words.now → IsAnswered result }
+
+    // No call changes the files, or what an output tells beside what was sent; and no count falls.
+    ensures files { F.files folder.new ≡ F.files folder.old }
+    ensures later { F.faults folder.old ≤ F.faults folder.new }
+    ensures out_later { S.faults out.old ≤ S.faults out.new }
+    ensures out_doors { S.doors out.new ≡ S.doors out.old }
+    ensures out_aside { S.aside out.new ≡ S.aside out.old }
+    ensures err_later { E.faults err.old ≤ E.faults err.new }
+    ensures err_doors { E.doors err.new ≡ E.doors err.old }
+    ensures err_aside { E.aside err.new ≡ E.aside err.old }
 {
     let outcome = perform(alloc, words, folder, out);
     report(outcome, err);

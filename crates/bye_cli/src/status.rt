@@ -1,3 +1,9 @@
+ghost use Rattle.std.specs.Prelude.{◌≡◌};
+ghost use Rattle.std.specs.Process.{exit_status};
+ghost use Rattle.bye_cli.specs.Statuses.{number_of};
+
+use std::process::ExitCode;
+
 /// How the program ended.
 #[derive(Debug, Clone, Copy, PartialEq, Eq)]
 pub enum Status {
@@ -19,4 +25,13 @@ pub enum Status {
     Memory = 7,
     /// There is no wanted row.
     Example = 9,
+}
+
+impl Status {
+    /// What the process ends with: the status's number.
+    pub fn exit_code(self) -> ExitCode
+        ensures { exit_status result ≡ number_of self }
+    {
+        ExitCode::from(self as u8)
+    }
 }

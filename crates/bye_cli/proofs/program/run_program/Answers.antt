@@ -30,7 +30,7 @@ returns-clause-err g c =
     (λ (status : Status). IsMessage (g.F.Folder.files c.args.folder.now) c.args.words.now (g.F.Source.faults c.args.folder.now) (g.F.Source.faults c.perform-outcome.new.folder) status
     (Rose (g.E.Sink.faults c.args.err.now) (g.E.Sink.faults c.report.new.err)) (g.E.Sink.sent c.args.err.now) (g.E.Sink.sent c.report.new.err))
     (sym c.status.ensures)
-    (message _ _ _ _ c.perform-outcome.result _ _ _ c.perform-outcome.ensures.failed c.report.ensures)
+    (message _ _ _ _ c.perform-outcome.result _ _ _ c.perform-outcome.ensures.failed c.report.ensures.sent)
 
 pub returns-clause-words : goal.returns-clause-words
 returns-clause-words g c = words_alone _ _ _ _ _ _ _ _ c.perform-outcome.result (run_of g c) c.status.result c.status.ensures
