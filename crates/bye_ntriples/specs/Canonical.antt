@@ -51,9 +51,13 @@ pub record IsStatement (triple : Statement) : Type 0 where
 abbrev pub OneCanonical : Type 0
 OneCanonical = (triples : List Statement) (bytes others : List ℕ) → IsCanonical triples bytes → IsCanonical triples others → bytes ≡ others
 
--- the canonical document of triples is a document, which has the distinct ones in the order of their lines
+-- the canonical document of the triples is a document, which has the distinct ones in the order of their lines
+abbrev pub IsReadBack : List Statement → List ℕ → Type 0
+IsReadBack triples bytes = (c : IsCanonical triples bytes) → NtDoc bytes c.distinct
+
+-- it is so for triples of terms
 abbrev pub CanonicalReadsBack : Type 0
-CanonicalReadsBack = (triples : List Statement) (bytes : List ℕ) → AllByRecursion IsStatement triples → (c : IsCanonical triples bytes) → NtDoc bytes c.distinct
+CanonicalReadsBack = (triples : List Statement) (bytes : List ℕ) → AllByRecursion IsStatement triples → IsReadBack triples bytes
 
 -- a document's triples are triples of terms
 abbrev pub DocumentsHaveStatements : Type 0

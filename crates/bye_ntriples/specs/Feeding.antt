@@ -1,5 +1,5 @@
 -- A reader of graph documents that is given them in pieces.
-use Rattle.std.specs.Prelude.{◌≡◌, ℕ, ◌+◌, true, false, List, ◌++◌, Some, length, Result, Ok, Err, ⊤}
+use Rattle.std.specs.Prelude.{◌≡◌, ℕ, ◌+◌, true, false, List, ◌++◌, Some, length, ⊤}
 use Rattle.std.specs.Str.{encode_utf8_all, all_scalars}
 use Rattle.bye_lex.specs.Utf8.{NoCharacter}
 use Rattle.bye_ntriples.specs.Answers.{MayBeFront, IsFault}
@@ -38,11 +38,6 @@ IsRefusal bytes (faults.Syntax place) = Refuses bytes (faults.Syntax place)
 IsRefusal bytes (faults.NotUtf8 place) = Refuses bytes (faults.NotUtf8 place)
 IsRefusal bytes faults.TooMany = Refuses bytes faults.TooMany
 IsRefusal bytes faults.Memory = ⊤
-
--- what the reader comes to with these bytes
-abbrev pub Reads : List ℕ → Result ReadingAt NtErr → Type 0
-Reads bytes (Ok reading) = HasCome bytes reading
-Reads bytes (Err fault) = IsRefusal bytes fault
 
 -- the bytes that have come, by their number
 abbrev pub taken : ReadingAt → ℕ

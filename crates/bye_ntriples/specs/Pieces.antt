@@ -9,6 +9,11 @@ abbrev pub Came : List ℕ → State → Type 0
 Came bytes (states.Reading reading) = HasCome bytes reading
 Came bytes (states.Refused fault) = IsRefusal bytes fault
 
+-- it has refused nothing
+abbrev pub IsReading : State → Type 0
+IsReading (states.Reading reading) = ⊤
+IsReading (states.Refused fault) = ⊥
+
 -- so many bytes more are less than 2^64 in all
 abbrev pub HasRoom : State → ℕ → Type 0
 HasRoom (states.Reading reading) more = taken reading + more < 2 ^ 64

@@ -1,7 +1,7 @@
 //! Graph documents that come in pieces.
 
 ghost use Rattle.bye_ntriples.specs.Answers.{IsFault, IsFeedFault, IsGraph, MayBeFront};
-ghost use Rattle.bye_ntriples.specs.Pieces.{Came, HasRoom};
+ghost use Rattle.bye_ntriples.specs.Pieces.{Came, HasRoom, IsReading};
 ghost use Rattle.bye_ntriples.specs.declared.fault.NtErr.{NtErr as Fault};
 ghost use Rattle.bye_ntriples.specs.declared.pieces.State.TheVariants as states;
 ghost use Rattle.std.specs.Prelude.{◌≡◌, ◌<◌, ◌+◌, ◌^◌, ◌++◌, [], ℕ, List, Err, IfOk, IfErr, OnOk, length};
@@ -35,9 +35,10 @@ impl Model for NtReader {
 }
 
 impl NtReader {
-    /// A reader that has been given nothing. It takes no memory.
+    /// A reader that has been given nothing and has refused nothing. It takes no memory.
     pub fn new(alloc: Global) -> NtReader
         ensures came { Came [] result }
+        ensures reads { IsReading result }
         ensures room { (more : ℕ) → more < 2 ^ 64 → HasRoom result more }
     {
         NtReader {
@@ -52,6 +53,7 @@ impl NtReader {
         requires { HasRoom self.old (length piece.now) }
         ensures came { (bytes : List ℕ) → Came bytes self.old → Came (bytes ++ piece.now) self.new }
         ensures ok { (bytes : List ℕ) → Came bytes self.old → OnOk result (MayBeFront (bytes ++ piece.now)) }
+        ensures reads { OnOk result (IsReading self.new) }
         ensures err { (bytes : List ℕ) → Came bytes self.old → IfErr result (IsFeedFault (bytes ++ piece.now)) }
         ensures room { OnOk result ((more : ℕ) → HasRoom self.old (length piece.now + more) → HasRoom self.new more) }
         ensures refused { IfErr result (λ fault. self.new ≡ states.Refused fault) }

@@ -4,7 +4,7 @@
 ghost use Rattle.std.specs.Prelude.{◌≡◌, ◌++◌, [], IfOk, OnOk, map};
 ghost use Rattle.bye_terms.specs.Spellings.{term_bytes};
 ghost use Rattle.bye_terms.specs.declared.term.Term.TheVariants as terms;
-ghost use Rattle.bye_ntriples.specs.Canonical.{line_bytes, IsCanonical, IsStatement};
+ghost use Rattle.bye_ntriples.specs.Canonical.{line_bytes, IsCanonical, IsReadBack, IsStatement};
 ghost use Rattle.bye_ntriples.specs.Writing.{IsSpelled, IsAdded, AreSpelled, parts, MayCut, joined, AreJoined};
 
 use crate::keys::keyed;
@@ -147,7 +147,8 @@ fn sort(alloc: Global, text: &str, lengths: &[usize]) -> Result<Vec<u8>, Memory>
 /// The canonical document of the triples: the distinct ones, each on a line of its own, in the byte order of these lines (RDF 1.1
 /// N-Triples, section 4).
 pub fn write_triples(alloc: Global, triples: &[Triple]) -> Result<Vec<u8>, Memory>
-    ensures { IfOk result (λ bytes. IsCanonical triples.now bytes.items) }
+    ensures canonical { IfOk result (λ bytes. IsCanonical triples.now bytes.items) }
+    ensures document { IfOk result (λ bytes. IsReadBack triples.now bytes.items) }
 {
     let spelled = spell(alloc, triples)?;
     match str::from_utf8(spelled.text.as_slice()) {
