@@ -165,15 +165,18 @@ module _ (End : List ℕ → Type 0) (s : Term) (p lexical rest : List ℕ) (t :
   abbrev After : Term → List ℕ → Type 0
   After o text = Front (Dotted End (triple_of s p o)) rest t text
 
+  tag_parts : (text own after tag : List ℕ) → text ≡ 64 ∷ (own ++ after) → own ≡ tag → is_tag tag ≡ true → After (tagged_of lexical tag) after → Front (Suffix End s p lexical) rest t text
+  tag_parts text own after tag at same valid f =
+      let spelled : text ≡ (64 ∷ tag) ++ after = at ∙ ap (λ own. 64 ∷ (own ++ after)) same in
+      let w = then TagToken (λ tag. Dotted End (triple_of s p (tagged_of lexical tag))) (64 ∷ tag) after rest text tag t (refl, valid) spelled f in
+      (w.0, w.1, here (AfterSpaces End s p lexical) w.0 t (inr (inl w.2)))
+
   tag_front : (text more : List ℕ) (r : Term × List ℕ) → text ≡ 64 ∷ more → tagged lexical more ≡ Some r → After r.0 r.1 → Front (Suffix End s p lexical) rest t text
   unfolding tagged
   tag_front text more r at e f =
       let a = read_both (as_tag (word more).0) _ r e in
       let k = chosen_is is_tag (word more).0 a.0 a.1 in
-      let g : After (tagged_of lexical a.0) (word more).1 = subst (λ (r : Term × List ℕ). After r.0 r.1) (sym (some_same a.2)) f in
-      let spelled : text ≡ (64 ∷ a.0) ++ (word more).1 = at ∙ ap (λ t. 64 ∷ t) (word_parts more ∙ ap (λ t. t ++ (word more).1) k.0) in
-      let w = then TagToken (λ tag. Dotted End (triple_of s p (tagged_of lexical tag))) (64 ∷ a.0) (word more).1 rest text a.0 t (refl, k.1) spelled g in
-      (w.0, w.1, here (AfterSpaces End s p lexical) w.0 t (inr (inl w.2)))
+      tag_parts text (word more).0 (word more).1 a.0 (at ∙ ap (λ t. 64 ∷ t) (word_parts more)) k.0 k.1 (subst (λ (r : Term × List ℕ). After r.0 r.1) (sym (some_same a.2)) f)
 
   typed_is : (datatype : List ℕ) (o : Term) → as_typed lexical datatype ≡ Some o → (is_lang_string datatype ≡ false) × (o ≡ typed_of lexical datatype)
   typed_is datatype o e = go (is_lang_string datatype) refl e
@@ -182,19 +185,20 @@ module _ (End : List ℕ → Type 0) (s : Term) (p lexical rest : List ℕ) (t :
       go true is e = none_some e
       go false is e = (is, sym (some_same e))
 
+  typed_parts : (text inner iri : List ℕ) (q : List ℕ × List ℕ) (o : Term) → text ≡ 94 ∷ 94 ∷ inner → (inner ≡ iri ++ q.1) × IriToken true iri q.0 → (is_lang_string q.0 ≡ false) × (o ≡ typed_of lexical q.0) → After o q.1 → Front (Suffix End s p lexical) rest t text
+  typed_parts text inner iri q o at token is f =
+      let g : After (typed_of lexical q.0) q.1 = subst (λ o. After o q.1) is.1 f in
+      let w = then DatatypeToken (λ datatype. Dotted End (triple_of s p (typed_of lexical datatype))) iri q.1 rest inner q.0 t (token.1, is.0) token.0 g in
+      let after = here (Then DatatypeToken (λ datatype. Dotted End (triple_of s p (typed_of lexical datatype)))) w.0 t w.2 in
+      (94 ∷ 94 ∷ w.0, at ∙ ap (λ t. 94 ∷ 94 ∷ t) w.1, here (AfterSpaces End s p lexical) (94 ∷ 94 ∷ w.0) t (inr (inr (record { rest = w.0; after = after; spelled = refl }))))
+
   typed_front : (text more : List ℕ) (r : Term × List ℕ) → text ≡ 94 ∷ more → typed lexical more ≡ Some r → After r.0 r.1 → Front (Suffix End s p lexical) rest t text
   unfolding typed
   typed_front text more r at e f =
       let a = read_both (after_at 94 more) _ r e in
       let b = read_both (iri_at a.0) _ r a.2 in
       let d = read_both (as_typed lexical b.0.0) _ r b.2 in
-      let k = iri_token a.0 b.0 b.1 in
-      let is = typed_is b.0.0 d.0 d.1 in
-      let g : After (typed_of lexical b.0.0) b.0.1 = subst (λ o. After o b.0.1) is.1 (subst (λ (r : Term × List ℕ). After r.0 r.1) (sym (some_same d.2)) f) in
-      let w = then DatatypeToken (λ datatype. Dotted End (triple_of s p (typed_of lexical datatype))) (term_text (Iri b.0.0)) b.0.1 rest a.0 b.0.0 t (k.1, is.0) k.0 g in
-      let spelled : text ≡ (94 ∷ 94 ∷ w.0) ++ rest = at ∙ ap (λ t. 94 ∷ t) (after_takes 94 more a.0 a.1 ∙ ap (λ t. 94 ∷ t) w.1) in
-      let after = here (Then DatatypeToken (λ datatype. Dotted End (triple_of s p (typed_of lexical datatype)))) w.0 t w.2 in
-      (94 ∷ 94 ∷ w.0, spelled, here (AfterSpaces End s p lexical) (94 ∷ 94 ∷ w.0) t (inr (inr (record { rest = w.0; after = after; spelled = refl }))))
+      typed_parts text a.0 (term_text (Iri b.0.0)) b.0 d.0 (at ∙ ap (λ t. 94 ∷ t) (after_takes 94 more a.0 a.1)) (iri_token a.0 b.0 b.1) (typed_is b.0.0 d.0 d.1) (subst (λ (r : Term × List ℕ). After r.0 r.1) (sym (some_same d.2)) f)
 
   string_front : (text : List ℕ) → After (string_of lexical) text → Front (Suffix End s p lexical) rest t text
   string_front text f = (f.0, f.1, spaced_as (Dot End (triple_of s p (string_of lexical))) (AfterSpaces End s p lexical) (λ text v h. inl h) f.0 t f.2)
@@ -210,16 +214,19 @@ module _ (End : List ℕ → Type 0) (s : Term) (p lexical rest : List ℕ) (t :
       go None e g = none (after_at 94 text) refl g
       go (Some more) e g = tag_front text more r (after_takes 64 text more e) g f
 
+literal_parts : (End : List ℕ → Type 0) (s : Term) (p rest : List ℕ) (t : Statement) (text own lexical after : List ℕ) (r : Term × List ℕ) → text ≡ 34 ∷ (own ++ 34 ∷ after) → (own ≡ lexical) × (list_all is_plain lexical ≡ true) → suffixed lexical after ≡ Some r
+    → Front (Dotted End (triple_of s p r.0)) rest t r.1 → Front (Then (StringToken Triples) (λ lexical. Suffix End s p lexical)) rest t text
+literal_parts End s p rest t text own lexical after r at k e f =
+    let spelled : text ≡ (34 ∷ (lexical ++ 34 ∷ [])) ++ after = at ∙ ap (λ own. 34 ∷ (own ++ 34 ∷ after)) k.0 ∙ ap (λ t. 34 ∷ t) (sym (append_assoc lexical (34 ∷ []) after)) in
+    then (StringToken Triples) (λ lexical. Suffix End s p lexical) (34 ∷ (lexical ++ 34 ∷ [])) after rest text lexical t (string_token lexical k.1) spelled (suffix_front End s p lexical rest t after r e f)
+
 literal_front : (End : List ℕ → Type 0) (s : Term) (p rest : List ℕ) (t : Statement) (text inner : List ℕ) (r : Term × List ℕ) → text ≡ 34 ∷ inner → literal inner ≡ Some r
     → Front (Dotted End (triple_of s p r.0)) rest t r.1 → Front (Then (StringToken Triples) (λ lexical. Suffix End s p lexical)) rest t text
 unfolding literal
 literal_front End s p rest t text inner r at e f =
     let a = read_both (until_at 34 inner) _ r e in
     let b = read_both (as_plain a.0.0) _ r a.2 in
-    let k = chosen_is (list_all is_plain) a.0.0 b.0 b.1 in
-    let spelled : text ≡ (34 ∷ (b.0 ++ 34 ∷ [])) ++ a.0.1 =
-    at ∙ ap (λ t. 34 ∷ t) (until_takes 34 inner a.0 a.1 ∙ ap (λ t. t ++ 34 ∷ a.0.1) k.0 ∙ sym (append_assoc b.0 (34 ∷ []) a.0.1)) in
-    then (StringToken Triples) (λ lexical. Suffix End s p lexical) (34 ∷ (b.0 ++ 34 ∷ [])) a.0.1 rest text b.0 t (string_token b.0 k.1) spelled (suffix_front End s p b.0 rest t a.0.1 r b.2 f)
+    literal_parts End s p rest t text a.0.0 b.0 a.0.1 r (at ∙ ap (λ t. 34 ∷ t) (until_takes 34 inner a.0 a.1)) (chosen_is (list_all is_plain) a.0.0 b.0 b.1) b.2 f
 
 object_front : (End : List ℕ → Type 0) (s : Term) (p rest : List ℕ) (t : Statement) (text : List ℕ) (r : Term × List ℕ) → object text ≡ Some r → Front (Dotted End (triple_of s p r.0)) rest t r.1 → Front (Object End s p) rest t text
 object_front End s p rest t text r e f = go (after_at 34 text) refl e
@@ -261,6 +268,26 @@ pub record IsEndedLine (text : List ℕ) (triple : Statement) (rest : List ℕ) 
   pub ends : is_line_end end ≡ true
   pub is : Line own (Some triple)
 
+line_of : (text dotted rest : List ℕ) (s o : Term × List ℕ) (p : List ℕ × List ℕ) → subject text ≡ Some s → iri_at (after_spaces s.1) ≡ Some p → object (after_spaces p.1) ≡ Some o → after_at 46 (after_spaces o.1) ≡ Some dotted → after_end (after_spaces dotted) ≡ Some rest
+    → IsEndedLine text (triple_of s.0 p.0 o.0) rest
+line_of text dotted rest s o p is_s is_p is_o is_dot is_end =
+    let t = triple_of s.0 p.0 o.0 in
+    let end = end_is (after_spaces dotted) rest is_end in
+    let gap = gap_is dotted end.0 rest end.1 in
+    let last : List ℕ = end.0 ∷ rest in
+    let dot : Front (Dot LineEnd t) last t (after_spaces o.1) = (46 ∷ gap.0, after_takes 46 (after_spaces o.1) dotted is_dot ∙ ap (λ t. 46 ∷ t) gap.1, record { rest = gap.0; end = gap.2; spelled = refl; is = refl }) in
+    let after_o : Front (Dotted LineEnd t) last t o.1 = spaced (Dot LineEnd t) last t o.1 dot in
+    let after_p : Front (Spaced (Object LineEnd s.0 p.0)) last t p.1 = spaced (Object LineEnd s.0 p.0) last t p.1 (object_front LineEnd s.0 p.0 last t (after_spaces p.1) o is_o after_o) in
+    let after_s : Front (Spaced (Predicate LineEnd s.0)) last t s.1 = spaced (Predicate LineEnd s.0) last t s.1 (predicate_front LineEnd s.0 last t (after_spaces s.1) p is_p after_p) in
+    let whole : Front (Subject LineEnd) last t text = subject_front LineEnd last t text s is_s after_s in
+    record {
+      own = whole.0;
+      end = end.0;
+      parts = whole.1;
+      ends = end.2;
+      is = inr (record { triple = t; stated = here (Subject LineEnd) whole.0 t whole.2; is = refl });
+    }
+
 pub plain_line_is : (text : List ℕ) (r : Statement × List ℕ) → plain_line text ≡ Some r → IsEndedLine text r.0 r.1
 unfolding plain_line
 plain_line_is text r e =
@@ -269,20 +296,4 @@ plain_line_is text r e =
     let o = read_both (object (after_spaces p.0.1)) _ r p.2 in
     let d = read_both (after_at 46 (after_spaces o.0.1)) _ r o.2 in
     let z = read_both (after_end (after_spaces d.0)) _ r d.2 in
-    let t = triple_of s.0.0 p.0.0 o.0.0 in
-    let end = end_is (after_spaces d.0) z.0 z.1 in
-    let gap = gap_is d.0 end.0 z.0 end.1 in
-    let rest = end.0 ∷ z.0 in
-    let dot : Front (Dot LineEnd t) rest t (after_spaces o.0.1) = (46 ∷ gap.0, after_takes 46 (after_spaces o.0.1) d.0 d.1 ∙ ap (λ t. 46 ∷ t) gap.1, record { rest = gap.0; end = gap.2; spelled = refl; is = refl }) in
-    let dotted = spaced (Dot LineEnd t) rest t o.0.1 dot in
-    let after_p = spaced (Object LineEnd s.0.0 p.0.0) rest t p.0.1 (object_front LineEnd s.0.0 p.0.0 rest t (after_spaces p.0.1) o.0 o.1 dotted) in
-    let after_s = spaced (Predicate LineEnd s.0.0) rest t s.0.1 (predicate_front LineEnd s.0.0 rest t (after_spaces s.0.1) p.0 p.1 after_p) in
-    let whole = subject_front LineEnd rest t text s.0 s.1 after_s in
-    let line : IsEndedLine text t z.0 = record {
-      own = whole.0;
-      end = end.0;
-      parts = whole.1;
-      ends = end.2;
-      is = inr (record { triple = t; stated = here (Subject LineEnd) whole.0 t whole.2; is = refl });
-    } in
-    subst (λ (r : Statement × List ℕ). IsEndedLine text r.0 r.1) (some_same z.2) line
+    subst (λ (r : Statement × List ℕ). IsEndedLine text r.0 r.1) (some_same z.2) (line_of text d.0 z.0 s.0 o.0 p.0 s.1 p.1 o.1 d.1 z.1)
