@@ -1,10 +1,7 @@
 -- The plan of an object in memory: which of its calls are to fail, and how much one takes.
-use Rattle.std.specs.Prelude.{◌≡◌, ℕ, ◌+◌, ◌-◌, ◌^◌, min, List, Contains}
+use Rattle.std.specs.Prelude.{◌≡◌, ℕ, List, Contains}
+use Rattle.bye_io.specs.Counts.{raised}
 use Rattle.bye_io.specs.declared.plan.Plan.{Plan}
-
--- one more, up to the largest number of the type
-abbrev pub raised : ℕ → ℕ
-raised count = min (count + 1) (2 ^ 64 - 1)
 
 -- the next call is one of those that are to fail
 abbrev pub IsToFail : Plan → Type 0

@@ -1,10 +1,10 @@
 ghost use Rattle.std.specs.Prelude.{◌≡◌, ◌<◌, ◌≤◌, ◌↔◌, ◌⊎◌, List, [], ℕ, Option, Some, None, MatchOption, IfOk, OnOk, OnErr, IsErr, length, take, min, All, IsTrue};
 ghost use Rattle.std.specs.Io.{ReadsAtMost};
 ghost use Rattle.std.specs.Io.KnownBytes.{Consumes, IsAtEnd, Keeps};
-ghost use Rattle.bye_io.specs.Counts.{Rose};
+ghost use Rattle.bye_io.specs.Counts.{raised, Rose};
 ghost use Rattle.bye_io.specs.Files.{Lacks, Opens};
 ghost use Rattle.bye_io.specs.MemFolder.{lookup, open_bytes, AreDistinct};
-ghost use Rattle.bye_io.specs.Plan.{raised, CountsCall, IsNewPlan, IsToFail};
+ghost use Rattle.bye_io.specs.Plan.{CountsCall, IsNewPlan, IsToFail};
 
 use crate::fault::Failed;
 use crate::folder::Folder;

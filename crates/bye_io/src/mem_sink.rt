@@ -1,8 +1,8 @@
 ghost use Rattle.std.specs.Prelude.{◌≡◌, ◌+◌, ◌<◌, ◌≤◌, ◌↔◌, ◌⊎◌, List, [], ℕ, Some, IfOk, OnOk, OnErr, IsErr, length, take, min, vec_len, vec_capacity};
 ghost use Rattle.std.specs.Io.{WritesAtMost};
 ghost use Rattle.std.specs.Io.KnownBytes.{Appends, Keeps};
-ghost use Rattle.bye_io.specs.Counts.{Rose};
-ghost use Rattle.bye_io.specs.Plan.{raised, CountsCall, IsNewPlan, IsToFail};
+ghost use Rattle.bye_io.specs.Counts.{raised, Rose};
+ghost use Rattle.bye_io.specs.Plan.{CountsCall, IsNewPlan, IsToFail};
 
 use crate::fault::Failed;
 use crate::plan::Plan;

@@ -12,7 +12,8 @@ pub struct Plan {
 }
 
 impl Plan {
-    ghost use Rattle.bye_io.specs.Plan.{raised, CountsCall, IsNewPlan, IsToFail};
+    ghost use Rattle.bye_io.specs.Counts.{raised};
+    ghost use Rattle.bye_io.specs.Plan.{CountsCall, IsNewPlan, IsToFail};
 
     pub fn new(fails: Vec<u64>, most: u64) -> Self
         requires { 1 ≤ most }

@@ -1,7 +1,7 @@
 ghost use Rattle.std.specs.Prelude.{◌≡◌, ◌<◌, ◌≤◌, ◌↔◌, ℕ, None, refl, length, IfOk, OnOk, OnErr, IsOk, IsSome};
 ghost use Rattle.std.specs.Io.{ReadsAtMost, WritesAtMost};
 ghost use Rattle.std.specs.Io.KnownBytes.{ReadConsumes, WriteAppends};
-ghost use Rattle.bye_io.specs.Counts.{Rose};
+ghost use Rattle.bye_io.specs.Counts.{raised, Rose};
 
 use crate::fault::Failed;
 use crate::folder::Folder;
@@ -55,9 +55,11 @@ impl<R: Files + Drop> Source for RealFolder<R> {
         ensures cause { OnErr result (Rose (real_faults self.old) (real_faults self.new)) }
         ensures later { real_faults self.old ≤ real_faults self.new }
 
-        // The bytes are those of the open file, and only an error is a fault.
+        // The bytes are those of the open file, and only an error is a fault, which needs an open file.
         ensures bytes { ReadConsumes (file_left R.File.remaining (real_file self.old))
             (file_left R.File.remaining (real_file self.new)) result buf.new }
+        ensures opened { OnErr result (IsSome (real_file self.old)) }
+        ensures fault { OnErr result (real_faults self.new ≡ raised (real_faults self.old)) }
         ensures no_fault { OnOk result (real_faults self.new ≡ real_faults self.old) }
     {
         let Some(file) = &mut self.file else {
@@ -86,6 +88,7 @@ impl<R: Files + Drop> Folder for RealFolder<R> {
 
         // After `Ok` a file is open, and after `Failed` none. Only an error is a fault.
         ensures open { IsOk result ↔ IsSome (real_file self.new) }
+        ensures fault { OnErr result (real_faults self.new ≡ raised (real_faults self.old)) }
         ensures no_fault { OnOk result (real_faults self.new ≡ real_faults self.old) }
     {
         self.file = None;
@@ -131,6 +134,7 @@ impl<W: Write + Drop> Sink for Counted<W> {
         // The writer gets the bytes, and only an error is a fault.
         ensures bytes { WriteAppends (W.contents self.old.writer)
             (W.contents self.new.writer) result piece.now }
+        ensures fault { OnErr result (self.new.faults ≡ raised self.old.faults) }
         ensures no_fault { OnOk result (self.new.faults ≡ self.old.faults) }
     {
         match self.writer.write(piece) {
@@ -187,6 +191,8 @@ impl<W: Write + Drop> Sink for RealOut<W> {
         // The writer gets the bytes, and only an error is a fault.
         ensures bytes { WriteAppends (W.contents (out_counted self.old).writer)
             (W.contents (out_counted self.new).writer) result piece.now }
+        ensures fault { OnErr result
+            ((out_counted self.new).faults ≡ raised (out_counted self.old).faults) }
         ensures no_fault { OnOk result
             ((out_counted self.new).faults ≡ (out_counted self.old).faults) }
     {
@@ -238,6 +244,8 @@ impl<W: Write + Drop> Sink for RealErr<W> {
         // The writer gets the bytes, and only an error is a fault.
         ensures bytes { WriteAppends (W.contents (err_counted self.old).writer)
             (W.contents (err_counted self.new).writer) result piece.now }
+        ensures fault { OnErr result
+            ((err_counted self.new).faults ≡ raised (err_counted self.old).faults) }
         ensures no_fault { OnOk result
             ((err_counted self.new).faults ≡ (err_counted self.old).faults) }
     {
