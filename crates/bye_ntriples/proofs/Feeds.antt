@@ -12,7 +12,7 @@ use Rattle.bye_lex.proofs.Beginnings.{begins_empty}
 use Rattle.bye_ntriples.specs.Answers.{triple_limit, MayBeFront, IsFault, IsFeedFault, IsGraph}
 use Rattle.bye_ntriples.specs.DocSteps.{DocAt, start, step, final, is_over, is_over_there, Walked, Went, Stopped, Many, onward, walk, CannotWalk}
 use Rattle.bye_ntriples.specs.Feeding.{ReadingAt, LedTo, HasCome, Refuses, IsRefusal}
-use Rattle.bye_ntriples.specs.Judging.{GoesOn, CannotGoOn}
+use Rattle.bye_ntriples.specs.Judging.{CanGoOn, CannotGoOn}
 use Rattle.bye_ntriples.specs.Running.{run}
 use Rattle.bye_ntriples.specs.declared.fault.NtErr.{NtErr}
 use Rattle.bye_ntriples.specs.declared.fault.NtErr.TheVariants as faults
@@ -145,7 +145,7 @@ module _ (front bytes text left : List ℕ) (d : DocAt) (place : ℕ) (cut : Cut
       let p = cut.led.at in
       record { scalars = scalars_join front text cut.led.scalars cut.scalars; runs = run_on step start d front text cut.led.runs ∙ h.runs; within = h.within; at = omega (arith, f, p) }
 
-  pub takes : (n : DocAt) (begins : Bool) (total : ℕ) → total ≡ place + length (encode_utf8_all text) → walk d text ≡ Went n → (begins ≡ true → BeginsCharacter left) → GoesOn n left begins → HasCome (encode_utf8_all front ++ bytes) (record { doc = n; left = left; place = total })
+  pub takes : (n : DocAt) (begins : Bool) (total : ℕ) → total ≡ place + length (encode_utf8_all text) → walk d text ≡ Went n → (begins ≡ true → BeginsCharacter left) → CanGoOn n left begins → HasCome (encode_utf8_all front ++ bytes) (record { doc = n; left = left; place = total })
   takes n begins total t e b g =
       let l = went n e in
       let whole = together front bytes text left cut.parts in

@@ -67,7 +67,7 @@ abbrev pub AreEnded : List ℕ → Type 0
 AreEnded text = (text ≡ []) ⊎ ((front : List ℕ) × (c : ℕ) × (text ≡ front ++ c ∷ []) × (is_line_end c ≡ true))
 
 -- a triple is complete at its dot after as many as are allowed, and the dot is no part of a longer label
-pub record PassesWhere (GoesOn : List ℕ → List ℕ → Type 0) (bytes : List ℕ) : Type 0 where
+pub record PassesWhere (IsWithin : List ℕ → List ℕ → Type 0) (bytes : List ℕ) : Type 0 where
   pub lines : List ℕ
   pub own : List ℕ
   pub rest : List ℕ
@@ -79,7 +79,7 @@ pub record PassesWhere (GoesOn : List ℕ → List ℕ → Type 0) (bytes : List
   pub many : triple_limit ≤ length before
   pub triple : Statement
   pub stated : UpToDot own triple
-  pub settled : GoesOn own rest → ⊥
+  pub settled : IsWithin own rest → ⊥
 
 -- the document has one triple more than are allowed before any fault
 abbrev pub Passes : List ℕ → Type 0

@@ -6,7 +6,7 @@ use Rattle.bye_ntriples.specs.declared.fault.NtErr.{NtErr}
 use Rattle.bye_ntriples.specs.declared.fault.NtErr.TheVariants as faults
 
 -- they begin a character, and no triple too many waits, or the character may go on in its label
-pub record GoesOn (d : DocAt) (left : List ℕ) (begins : Bool) : Type 0 where
+pub record CanGoOn (d : DocAt) (left : List ℕ) (begins : Bool) : Type 0 where
   pub begun : begins ≡ true
   pub either : (is_over_there d ≡ false) ⊎ BeginsLabelPart left
 

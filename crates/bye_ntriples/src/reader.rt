@@ -3,7 +3,7 @@
 ghost use Rattle.bye_ntriples.specs.Answers.{IsFault, IsGraph};
 ghost use Rattle.bye_ntriples.specs.DocSteps.{start};
 ghost use Rattle.bye_ntriples.specs.Feeding.{HasCome, IsRefusal, LedTo, taken};
-ghost use Rattle.bye_ntriples.specs.Judging.{CannotGoOn, GoesOn};
+ghost use Rattle.bye_ntriples.specs.Judging.{CanGoOn, CannotGoOn};
 ghost use Rattle.std.specs.Prelude.{◌≡◌, ◌<◌, ◌+◌, ◌^◌, ◌++◌, [], ℕ, List, IfOk, IfErr, OnOk, length};
 ghost use Rattle.std.specs.Str.{encode_utf8_all};
 
@@ -33,7 +33,7 @@ impl Model for Reading {
 
 /// Whether what is left over after whole characters lets the document go on, at its place.
 fn judge(document: &Document, left: &[u8], begins: bool, place: usize) -> Result<(), NtErr>
-    ensures ok { OnOk result (GoesOn document.now left.now begins) }
+    ensures ok { OnOk result (CanGoOn document.now left.now begins) }
     ensures err { IfErr result (CannotGoOn document.now left.now begins place) }
 {
     if !begins {
@@ -77,12 +77,8 @@ impl Reading {
     {
         let decoded = decode(bytes);
         let end = self.place + decoded.text.as_bytes().len();
-        if let Err(fault) = self.document.walk(alloc, Cursor::new(decoded.text), end) {
-            return Err(fault);
-        }
-        if let Err(fault) = judge(&self.document, decoded.left, decoded.begins, end) {
-            return Err(fault);
-        }
+        self.document.walk(alloc, Cursor::new(decoded.text), end)?;
+        judge(&self.document, decoded.left, decoded.begins, end)?;
         self.left.clear();
         append(&mut self.left, decoded.left)?;
         self.place = end;
@@ -133,8 +129,6 @@ pub fn read_triples(alloc: Global, bytes: &[u8]) -> Result<Vec<Triple>, NtErr>
     ensures fault { IfErr result (IsFault bytes.now) }
 {
     let mut reading = Reading::new(alloc);
-    match reading.take(alloc, bytes) {
-        Ok(()) => reading.finish(),
-        Err(fault) => Err(fault),
-    }
+    reading.take(alloc, bytes)?;
+    reading.finish()
 }

@@ -53,16 +53,10 @@ fn slots(alloc: Global, row: &[(Var, Term)], term: &Term) -> Result<Vec<Slot>, M
     Ok(out)
 }
 
-fn is_var(slot: &Slot) -> bool
-    ensures { result ≡ spec.is_var slot.now }
-{
-    matches!(slot, Slot::Var(_))
-}
-
 fn has_var(s: &Slot, p: &Slot, o: &Slot) -> bool
     ensures { result ≡ (spec.is_var s.now || spec.is_var p.now || spec.is_var o.now) }
 {
-    is_var(s) || is_var(p) || is_var(o)
+    s.is_var() || p.is_var() || o.is_var()
 }
 
 fn offer(

@@ -3,7 +3,6 @@
 ghost use Rattle.std.specs.Prelude.{◌≡◌, ◌++◌, ◌∷◌, [], ◌↔◌, IfOk, IsTrue, Contains};
 ghost use Rattle.std.specs.List.Sorted.{IsPermutation};
 ghost use Rattle.bye_terms.specs.Members.{In, EachOnce};
-ghost use Rattle.bye_pattern.specs.Candidates as candidates;
 ghost use Rattle.bye_pattern.specs.Patterns.{Pattern, vars};
 ghost use Rattle.bye_pattern.specs.Printed.{root_line};
 ghost use Rattle.bye_pattern.specs.TrialOrder.{distinct_count, trial_cmp, IsInTrialOrder};
@@ -38,12 +37,6 @@ impl Model for Ranked {
     ghost invariant = { λ r. (r.variables ≡ distinct_count (vars r.pattern)) × (r.line ≡ root_line r.pattern) };
 }
 
-fn is_var(slot: &Slot) -> bool
-    ensures { result ≡ candidates.is_var slot.now }
-{
-    matches!(slot, Slot::Var(_))
-}
-
 fn is_same_var(one: &Slot, other: &Slot) -> bool
     ensures { result ≡ spec.is_same_var one.now other.now }
 {
@@ -64,9 +57,9 @@ fn one_if(test: bool) -> usize
 fn count_variables(s: &Slot, p: &Slot, o: &Slot) -> usize
     ensures { result ≡ spec.variable_count s.now p.now o.now }
 {
-    one_if(is_var(s) && !is_same_var(p, s) && !is_same_var(o, s))
-        + one_if(is_var(p) && !is_same_var(o, p))
-        + one_if(is_var(o))
+    one_if(s.is_var() && !is_same_var(p, s) && !is_same_var(o, s))
+        + one_if(p.is_var() && !is_same_var(o, p))
+        + one_if(o.is_var())
 }
 
 impl Ranked {
@@ -117,7 +110,8 @@ fn sort(ranked: &mut Vec<Ranked>)
     ranked.sort_unstable_by(compare);
 }
 
-fn contains(patterns: &[TriplePattern], one: &TriplePattern) -> bool
+/// Whether the pattern is one of these.
+fn holds(patterns: &[TriplePattern], one: &TriplePattern) -> bool
     ensures { IsTrue result ↔ Contains patterns.now one.now }
 {
     patterns.iter().any(|p| p.same(one))
@@ -131,7 +125,7 @@ fn each_once(alloc: Global, ranked: &[Ranked]) -> Result<Vec<TriplePattern>, Mem
 {
     let mut out = Vec::new(alloc);
     for r in ranked {
-        if !contains(out.as_slice(), r.pattern()) {
+        if !holds(out.as_slice(), r.pattern()) {
             keep(&mut out, r.pattern().copy(alloc)?)?;
         }
     }

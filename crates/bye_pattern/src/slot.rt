@@ -1,5 +1,6 @@
 ghost use Rattle.std.specs.Prelude.{◌≡◌, ◌↔◌, IfOk, IfSome, IfNone, IsTrue, true, false};
 ghost use Rattle.bye_terms.specs.Terms.{is_blank};
+ghost use Rattle.bye_pattern.specs.Candidates as spec;
 
 use bye_terms::{Memory, Term, Var};
 use std::alloc::Global;
@@ -72,6 +73,13 @@ impl Constant {
 }
 
 impl Slot {
+    /// Whether it is a variable.
+    pub fn is_var(&self) -> bool
+        ensures { result ≡ spec.is_var self.now }
+    {
+        matches!(self, Slot::Var(_))
+    }
+
     /// Whether the two are the same variable or the same constant.
     pub fn same(&self, other: &Slot) -> bool
         ensures { IsTrue result ↔ (self.now ≡ other.now) }

@@ -1,5 +1,6 @@
 use Rattle.std.proofs.Common.{◌≡◌, ◌+◌, ◌++◌, ℕ, List, Bool, true, false, length, sym, ◌∙◌, ap, subst, arith}
 use Rattle.std.specs.Str.{chars, encode_utf8_all, IsUtf8}
+use Rattle.std.proofs.lemmas.Result.{err_from_is_err_and}
 use Rattle.bye_ntriples.specs.DocSteps.{walk, CannotWalk}
 use Rattle.bye_ntriples.specs.Feeding.{ReadingAt, HasCome, LedTo}
 use Rattle.bye_ntriples.proofs.Feeds.{cut_of, text_length, walk_fault, refuses_left, takes}
@@ -16,8 +17,9 @@ walk-requires c =
     let same = ap length c.as_bytes.ensures.value in
     omega (arith, text, same)
 
-pub returns-in-Err-clause-err : goal.returns-in-Err-clause-err
-returns-in-Err-clause-err c front led =
+pub returns-in_err-walk-clause-err : goal.returns-in_err-walk-clause-err
+returns-in_err-walk-clause-err c front led =
+    let p = err_from_is_err_and c.from_residual.result c.from_residual.ensures.1 in
     let text = c.decode-decoded.result.text.now in
     let left = c.decode-decoded.result.left.now in
     let utf8 = subst IsUtf8 c.as_bytes.ensures.value c.as_bytes.ensures.utf8 in
@@ -25,11 +27,12 @@ returns-in-Err-clause-err c front led =
     let cut = cut_of front c.args.bytes.now text left c.self.inside.document c.self.inside.place here c.decode-decoded.ensures.parts utf8 c.decode-decoded.ensures.whole in
     let total = c.self.inside.place + length c.as_bytes.result.now in
     let sum = ap (λ n. c.self.inside.place + n) (ap length c.as_bytes.ensures.value ∙ sym (text_length text utf8)) in
-    walk_fault front c.args.bytes.now (chars text) left c.self.inside.document c.self.inside.place cut total c.in-Err.fault sum
-    (subst (λ t. CannotWalk total c.in-Err.fault (walk c.self.inside.document t)) c.new.ensures c.in-Err.ensures.err)
+    rw (p.1, p.2) (walk_fault front c.args.bytes.now (chars text) left c.self.inside.document c.self.inside.place cut total c.in_err-walk.field-0.0 sum
+    (subst (λ t. CannotWalk total c.in_err-walk.field-0.0 (walk c.self.inside.document t)) c.new.ensures c.in_err-walk.ensures.err))
 
-pub returns-in-Err-judge-clause-err : goal.returns-in-Err-judge-clause-err
-returns-in-Err-judge-clause-err c front led =
+pub returns-in_err-judge-clause-err : goal.returns-in_err-judge-clause-err
+returns-in_err-judge-clause-err c front led =
+    let p = err_from_is_err_and c.from_residual-in_err-judge.result c.from_residual-in_err-judge.ensures.1 in
     let text = c.decode-decoded.result.text.now in
     let left = c.decode-decoded.result.left.now in
     let utf8 = subst IsUtf8 c.as_bytes.ensures.value c.as_bytes.ensures.utf8 in
@@ -37,9 +40,9 @@ returns-in-Err-judge-clause-err c front led =
     let cut = cut_of front c.args.bytes.now text left c.self.inside.document c.self.inside.place here c.decode-decoded.ensures.parts utf8 c.decode-decoded.ensures.whole in
     let total = c.self.inside.place + length c.as_bytes.result.now in
     let sum = ap (λ n. c.self.inside.place + n) (ap length c.as_bytes.ensures.value ∙ sym (text_length text utf8)) in
-    let went = ap (walk c.self.inside.document) (sym c.new.ensures) ∙ c.in_default.ensures.ok in
-    refuses_left front c.args.bytes.now (chars text) left c.self.inside.document c.self.inside.place cut c.walk.new.self c.decode-decoded.result.begins total c.in-Err-judge.fault sum went
-    (λ f b. clash c.decode-decoded.result.begins f (c.decode-decoded.ensures.begins.1 b)) c.in-Err-judge.ensures.err
+    let went = ap (walk c.self.inside.document) (sym c.new.ensures) ∙ c.in_ok-walk.ensures.ok in
+    rw (p.1, p.2) (refuses_left front c.args.bytes.now (chars text) left c.self.inside.document c.self.inside.place cut c.walk.new.self c.decode-decoded.result.begins total c.in_err-judge.field-0.0 sum went
+    (λ f b. clash c.decode-decoded.result.begins f (c.decode-decoded.ensures.begins.1 b)) c.in_err-judge.ensures.err)
 
 pub returns-clause-ok : goal.returns-clause-ok
 returns-clause-ok c front led =
@@ -50,7 +53,7 @@ returns-clause-ok c front led =
     let cut = cut_of front c.args.bytes.now text left c.self.inside.document c.self.inside.place here c.decode-decoded.ensures.parts utf8 c.decode-decoded.ensures.whole in
     let total = c.self.inside.place + length c.as_bytes.result.now in
     let sum = ap (λ n. c.self.inside.place + n) (ap length c.as_bytes.ensures.value ∙ sym (text_length text utf8)) in
-    let went = ap (walk c.self.inside.document) (sym c.new.ensures) ∙ c.in_default.ensures.ok in
+    let went = ap (walk c.self.inside.document) (sym c.new.ensures) ∙ c.in_ok-walk.ensures.ok in
     let kept = c.in_ok-append.ensures ∙ ap (λ l. l ++ left) c.clear.ensures.items in
     subst (λ (l : List ℕ). HasCome (encode_utf8_all front ++ c.args.bytes.now) (record { doc = c.walk.new.self; left = l; place = total })) (sym kept)
-    (takes front c.args.bytes.now (chars text) left c.self.inside.document c.self.inside.place cut c.walk.new.self c.decode-decoded.result.begins total sum went (λ b. c.decode-decoded.ensures.begins.0 b) c.in_default-judge.ensures.ok)
+    (takes front c.args.bytes.now (chars text) left c.self.inside.document c.self.inside.place cut c.walk.new.self c.decode-decoded.result.begins total sum went (λ b. c.decode-decoded.ensures.begins.0 b) c.in_ok-judge.ensures.ok)
