@@ -16,7 +16,7 @@ mod tests;
 mod words;
 
 use bye_io::{RealErr, RealFolder, RealOut};
-use bye_terms::{Memory, Text, keep};
+use bye_terms::{Memory, Text, push_item};
 use program::run_program;
 use status::Status;
 use std::alloc::Global;
@@ -37,7 +37,7 @@ fn given(rt: &HostRuntime, alloc: Global) -> Result<Vec<Text>, Memory> {
         }
     };
     for arg in args.skip(1) {
-        keep(&mut words, Text::copy_of(alloc, arg.as_str())?)?;
+        push_item(&mut words, Text::copy_of(alloc, arg.as_str())?)?;
     }
     Ok(words)
 }

@@ -6,7 +6,7 @@ use crate::program::run_program;
 use crate::refusal::{Count, Fault, Refusal, Role};
 use crate::status::Status;
 use bye_io::{MemFolder, MemSink};
-use bye_terms::{Text, keep};
+use bye_terms::{Text, push_item};
 use std::alloc::Global;
 use std::process::Abort;
 use std::test::Fail;
@@ -26,7 +26,7 @@ const CONVERT: &str = "convert --graph g";
 fn words(alloc: Global, line: &str) -> Result<Vec<Text>, Fail> {
     let mut words = Vec::new(alloc);
     for word in line.split(' ') {
-        keep(&mut words, Text::copy_of(alloc, word)?)?;
+        push_item(&mut words, Text::copy_of(alloc, word)?)?;
     }
     Ok(words)
 }

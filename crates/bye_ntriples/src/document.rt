@@ -13,7 +13,7 @@ use crate::fault::NtErr;
 use crate::line::{LineAt, ObjectAt, is_line_end, last, step};
 use crate::plain::plain_line;
 use crate::subject::Parts;
-use bye_terms::{Cursor, Memory, Triple, keep};
+use bye_terms::{Cursor, Memory, Triple, push_item};
 use std::alloc::Global;
 use std::marker::Model;
 
@@ -63,7 +63,7 @@ impl Present {
         ensures { OnOk result (self.new ≡ at) }
     {
         self.states.clear();
-        keep(&mut self.states, at)
+        push_item(&mut self.states, at)
     }
 
     fn is_begin(&self) -> bool
@@ -99,7 +99,7 @@ fn keep_last(triples: &mut Vec<Triple>, last: Option<Parts>) -> Result<(), Memor
     ensures { OnOk result (triples.new.items ≡ triples.old.items ++ option_to_list last) }
 {
     match last {
-        Some(parts) => keep(triples, parts.into_triple()),
+        Some(parts) => push_item(triples, parts.into_triple()),
         None => Ok(()),
     }
 }
@@ -250,7 +250,7 @@ impl Document {
         let Some(triple) = plain_line(alloc, &mut after)? else {
             return Ok(false);
         };
-        keep(&mut self.triples, triple.into_triple())?;
+        push_item(&mut self.triples, triple.into_triple())?;
         *rest = after;
         Ok(true)
     }

@@ -6,7 +6,7 @@ ghost use Rattle.std.specs.Prelude.{◌≡◌, ◌<◌, ◌*◌, ◌+◌, ◌^�
 ghost use Rattle.bye_ntriples.specs.Keys as spec;
 ghost use Rattle.bye_ntriples.specs.KeyLists.{chosen, keyed_of};
 
-use bye_terms::{Memory, keep};
+use bye_terms::{Memory, push_item};
 use std::alloc::Global;
 use std::cmp::Ordering;
 
@@ -145,7 +145,7 @@ fn with_keys<'a>(
     let mut out = Vec::with_capacity(alloc, lines.len())?;
     for line in lines {
         let (first, second) = key(labels, fronts, line);
-        keep(&mut out, (first, second, *line))?;
+        push_item(&mut out, (first, second, *line))?;
     }
     Ok(out)
 }
@@ -157,7 +157,7 @@ fn sample<'a>(alloc: Global, lines: &[&'a str]) -> Result<Vec<&'a str>, Memory> 
     let mut at = step / 2;
     for _ in 0..LABELS {
         if let Some(line) = lines.get(at) {
-            keep(&mut out, *line)?;
+            push_item(&mut out, *line)?;
         }
         at = at.wrapping_add(step);
     }
@@ -171,7 +171,7 @@ fn push_level<'a>(out: &mut Vec<&'a str>, sorted: &[&'a str], first: usize) -> R
     for _ in 0..LABELS {
         if at <= LABELS {
             let label = sorted.get(at.wrapping_sub(1)).copied().unwrap_or("");
-            keep(out, label)?;
+            push_item(out, label)?;
         }
         at = at.saturating_add(first).saturating_add(first);
     }
@@ -181,7 +181,7 @@ fn push_level<'a>(out: &mut Vec<&'a str>, sorted: &[&'a str], first: usize) -> R
 /// The labels of a tree, in which the nodes 2n and 2n + 1 stand below the node n, and the root is 1.
 fn tree<'a>(alloc: Global, sorted: &[&'a str]) -> Result<Vec<&'a str>, Memory> {
     let mut out = Vec::with_capacity(alloc, NODES)?;
-    keep(&mut out, "")?;
+    push_item(&mut out, "")?;
     for first in [32, 16, 8, 4, 2, 1] {
         push_level(&mut out, sorted, first)?;
     }
@@ -208,11 +208,11 @@ fn shared<'a>(one: &[u8], other: &'a [u8]) -> &'a [u8] {
 fn fronts<'a>(alloc: Global, sorted: &[&'a str]) -> Result<Vec<&'a [u8]>, Memory> {
     let mut out = Vec::with_capacity(alloc, 2 * NODES)?;
     for _ in 0..NODES {
-        keep(&mut out, b"".as_slice())?;
+        push_item(&mut out, b"".as_slice())?;
     }
     let mut last = "";
     for label in sorted {
-        keep(&mut out, shared(last.as_bytes(), label.as_bytes()))?;
+        push_item(&mut out, shared(last.as_bytes(), label.as_bytes()))?;
         last = label;
     }
     Ok(out)

@@ -9,7 +9,7 @@ ghost use Rattle.bye_ntriples.specs.Writing.{IsSpelled, IsAdded, AreSpelled, par
 
 use crate::keys::keyed;
 use bye_lex::{Style, push_term, written_as_ordered};
-use bye_terms::{Iri, Label, Literal, Memory, Tag, Term, Text, Triple, keep};
+use bye_terms::{Iri, Label, Literal, Memory, Tag, Term, Text, Triple, push_item};
 use std::alloc::Global;
 
 /// Makes known that a literal is one of RDF, in characters of Unicode. It does nothing.
@@ -85,7 +85,7 @@ fn add(spelled: &mut Spelled, triple: &Triple) -> Result<(), Memory>
     let before = spelled.text.len();
     push_line(&mut spelled.text, triple)?;
     let length = spelled.text.len() - before;
-    keep(&mut spelled.lengths, length)
+    push_item(&mut spelled.lengths, length)
 }
 
 /// The lines of the triples.
@@ -112,7 +112,7 @@ fn cut<'a>(alloc: Global, text: &'a str, lengths: &[usize]) -> Result<Vec<&'a st
     let mut rest = text;
     for length in lengths {
         let (line, more) = rest.split_at(*length);
-        keep(&mut lines, line)?;
+        push_item(&mut lines, line)?;
         rest = more;
     }
     Ok(lines)

@@ -1,7 +1,7 @@
 //! Triples and their canonical documents.
 
 use super::*;
-use bye_terms::{Iri, Label, Literal, Tag, Term, Text, Triple, keep};
+use bye_terms::{Iri, Label, Literal, Tag, Term, Text, Triple, push_item};
 use std::alloc::Global;
 use std::test::Fail;
 
@@ -75,7 +75,7 @@ fn triples(alloc: Global, lines: &[Line]) -> Result<Vec<Triple>, Fail> {
     let mut out = Vec::new(alloc);
     for (s, p, o) in lines {
         let one = triple(term(alloc, *s)?, iri(alloc, p)?, term(alloc, *o)?)?;
-        keep(&mut out, one)?;
+        push_item(&mut out, one)?;
     }
     Ok(out)
 }

@@ -6,7 +6,7 @@ ghost use Rattle.bye_pattern.specs.Candidates as spec;
 
 use crate::pattern::TriplePattern;
 use crate::slot::{Constant, Slot};
-use bye_terms::{Memory, Term, Triple, Var, keep};
+use bye_terms::{Memory, Term, Triple, Var, push_item};
 use std::alloc::Global;
 
 /// Whether the two are the same term.
@@ -20,7 +20,7 @@ fn push_constant(alloc: Global, out: &mut Vec<Slot>, term: &Term) -> Result<(), 
     ensures { OnOk result (out.new.items ≡ out.old.items ++ spec.const_slot term.now) }
 {
     match Constant::of_term(term.copy(alloc)?) {
-        Some(c) => keep(out, Slot::Const(c)),
+        Some(c) => push_item(out, Slot::Const(c)),
         None => Ok(()),
     }
 }
@@ -35,7 +35,7 @@ fn push_var(
     ensures { OnOk result (out.new.items ≡ out.old.items ++ spec.var_slot term.now (name.now, value.now)) }
 {
     if same(value, term) {
-        keep(out, Slot::Var(name.copy(alloc)?))
+        push_item(out, Slot::Var(name.copy(alloc)?))
     } else {
         Ok(())
     }
@@ -72,7 +72,7 @@ fn offer(
         return Ok(());
     }
     match TriplePattern::of_slots(s.copy(alloc)?, p.copy(alloc)?, o.copy(alloc)?) {
-        Some(pattern) => keep(out, pattern),
+        Some(pattern) => push_item(out, pattern),
         None => Ok(()),
     }
 }

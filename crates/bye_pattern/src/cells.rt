@@ -3,7 +3,7 @@ ghost use Rattle.std.specs.Option.{option_map};
 ghost use Rattle.bye_pattern.specs.Reading as spec;
 ghost use Rattle.bye_pattern.specs.Reading.{cells_at};
 
-use bye_terms::{Cursor, Memory, Term, Var, keep, raw_iri};
+use bye_terms::{Cursor, Memory, Term, Var, push_item, raw_iri};
 use std::alloc::Global;
 
 /// What follows a cell before these others.
@@ -32,7 +32,7 @@ pub fn cells(
         if !rest.take(end_of(others)) {
             return Ok(None);
         }
-        keep(&mut pairs, (var.copy(alloc)?, Term::Iri(iri)))?;
+        push_item(&mut pairs, (var.copy(alloc)?, Term::Iri(iri)))?;
         left = others;
     }
     Ok(Some(pairs))

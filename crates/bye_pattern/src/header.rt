@@ -5,7 +5,7 @@ ghost use Rattle.bye_pattern.specs.Mappings.{Name};
 ghost use Rattle.bye_pattern.specs.Tables as spec;
 ghost use Rattle.bye_pattern.specs.Reading.{name_of, IsAdded, IsRefused, IsHeaderLine};
 
-use bye_terms::{Cursor, Memory, Text, Var, keep};
+use bye_terms::{Cursor, Memory, Text, Var, push_item};
 use std::alloc::Global;
 
 fn is_header_char(c: char) -> bool
@@ -63,7 +63,7 @@ fn add(alloc: Global, vars: &mut Vec<Var>, field: &str) -> Result<bool, Memory>
     if has(vars.as_slice(), &var) {
         return Ok(false);
     }
-    keep(vars, var)?;
+    push_item(vars, var)?;
     Ok(true)
 }
 

@@ -17,7 +17,7 @@ use crate::ranked::in_trial_order;
 use crate::row::Row;
 use crate::slot::Slot;
 use crate::table::Table;
-use bye_terms::{Memory, Triple, Var, keep};
+use bye_terms::{Memory, Triple, Var, push_item};
 use std::alloc::Global;
 
 /// What was learned: the triple patterns of the query, or the first variable that none contains.
@@ -40,7 +40,7 @@ fn common(
     let mut out = Vec::new(alloc);
     for pattern in candidates(alloc, first.listed(), graph)? {
         if meets_all(graph, rows, &pattern) {
-            keep(&mut out, pattern)?;
+            push_item(&mut out, pattern)?;
         }
     }
     Ok(out)

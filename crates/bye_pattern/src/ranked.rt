@@ -11,7 +11,7 @@ ghost use Rattle.bye_pattern.specs.Ranking as spec;
 use crate::pattern::TriplePattern;
 use crate::printer::push_line;
 use crate::slot::Slot;
-use bye_terms::{Memory, Text, keep};
+use bye_terms::{Memory, Text, push_item};
 use std::alloc::Global;
 use std::cmp::Ordering;
 use std::marker::Model;
@@ -98,7 +98,7 @@ fn rank(alloc: Global, patterns: Vec<TriplePattern>) -> Result<Vec<Ranked>, Memo
 {
     let mut out = Vec::new(alloc);
     for pattern in patterns {
-        keep(&mut out, Ranked::of_pattern(alloc, pattern)?)?;
+        push_item(&mut out, Ranked::of_pattern(alloc, pattern)?)?;
     }
     Ok(out)
 }
@@ -126,7 +126,7 @@ fn each_once(alloc: Global, ranked: &[Ranked]) -> Result<Vec<TriplePattern>, Mem
     let mut out = Vec::new(alloc);
     for r in ranked {
         if !holds(out.as_slice(), r.pattern()) {
-            keep(&mut out, r.pattern().copy(alloc)?)?;
+            push_item(&mut out, r.pattern().copy(alloc)?)?;
         }
     }
     Ok(out)

@@ -6,7 +6,7 @@ ghost use Rattle.bye_pattern.specs.Tables.{TableValue, IsHeader, IsRows, IsTable
 use crate::cells::cells;
 use crate::header::header;
 use crate::row::Row;
-use bye_terms::{Cursor, Memory, Var, keep};
+use bye_terms::{Cursor, Memory, Var, push_item};
 use std::alloc::Global;
 use std::marker::Model;
 use std::str;
@@ -72,7 +72,7 @@ fn read_rows(alloc: Global, vars: &[Var], mut rest: Cursor<'_>) -> Result<Vec<Ro
         let Some(pairs) = cells(alloc, vars, &mut rest)? else {
             return Err(TableErr::NotFirstTable);
         };
-        keep(&mut rows, Row::new(pairs))?;
+        push_item(&mut rows, Row::new(pairs))?;
     }
     Ok(rows)
 }

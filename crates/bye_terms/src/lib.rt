@@ -3,19 +3,27 @@
 
 pub mod characters;
 mod cursor;
+mod iri;
+mod label;
+mod literal;
 mod memory;
-mod parts;
 mod reading;
 mod rules;
 mod spelling;
+mod tag;
 mod term;
 mod text;
+mod triple;
 mod var;
 
 pub use cursor::Cursor;
-pub use memory::{Memory, keep};
-pub use parts::{Iri, Label, Tag};
+pub use iri::Iri;
+pub use label::Label;
+pub use literal::Literal;
+pub use memory::{Memory, push_item};
 pub use reading::raw_iri;
-pub use term::{Literal, Term, Triple};
+pub use tag::Tag;
+pub use term::Term;
 pub use text::Text;
+pub use triple::Triple;
 pub use var::Var;

@@ -19,7 +19,7 @@ impl<T: Drop> From<AllocFailed<T>> for Memory {
 }
 
 /// Puts an item at the end of a list.
-pub fn keep<T: Drop>(items: &mut Vec<T>, item: T) -> Result<(), Memory>
+pub fn push_item<T: Drop>(items: &mut Vec<T>, item: T) -> Result<(), Memory>
     ensures ok { OnOk result (items.new.items ≡ items.old.items ++ item ∷ []) }
     ensures err { OnErr result (items.new.items ≡ items.old.items) }
 {

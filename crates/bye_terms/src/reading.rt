@@ -3,8 +3,8 @@ ghost use Rattle.std.specs.Option.{option_map};
 ghost use Rattle.bye_terms.specs.Reading.{iri_at};
 
 use crate::cursor::Cursor;
+use crate::iri::Iri;
 use crate::memory::Memory;
-use crate::parts::Iri;
 use crate::text::Text;
 use std::alloc::Global;
 

@@ -1,19 +1,18 @@
-ghost use Rattle.std.specs.Prelude.{◌≡◌, IfOk, IfSome, IsNone, Some, None, IsTrue, true, ◌↔◌};
+ghost use Rattle.std.specs.Prelude.{◌≡◌, IfOk, IsTrue, ◌↔◌, ◌++◌};
 ghost use Rattle.std.specs.Cmp.Lexicographic.{slice_cmp};
 ghost use Rattle.std.specs.Ordering.{nat_cmp};
-ghost use Rattle.std.specs.Prelude.{◌++◌, codes};
 ghost use Rattle.std.specs.Str.{encode_utf8_all};
-ghost use Rattle.bye_terms.specs.Literals.{is_lang_string, lang_string, xsd_string};
 ghost use Rattle.bye_terms.specs.Pieces.{left_of};
-ghost use Rattle.bye_terms.specs.Spellings.{escaped, literal_bytes, term_bytes};
+ghost use Rattle.bye_terms.specs.Spellings.{term_bytes};
 
+use crate::iri::Iri;
+use crate::label::Label;
+use crate::literal::Literal;
 use crate::memory::Memory;
-use crate::parts::{Iri, Label, Tag};
 use crate::spelling::{Spelling, compare};
 use crate::text::Text;
 use std::alloc::Global;
 use std::cmp::Ordering;
-use std::marker::Model;
 
 /// A term of RDF (RDF 1.1 Concepts, section 3): an IRI, a blank node with its label, or a literal.
 #[derive(Debug, Drop)]
@@ -21,35 +20,6 @@ pub enum Term {
     Iri(Iri),
     Blank(Label),
     Lit(Literal),
-}
-
-/// A literal (RDF 1.1 Concepts, section 3.3). A tag is there exactly where the datatype is rdf:langString.
-#[derive(Debug, Drop)]
-pub struct Literal {
-    pub lexical: Text,
-    pub datatype: Iri,
-    pub tag: Option<Tag>,
-}
-
-impl Model for Literal {
-    ghost use Rattle.std.specs.Prelude.{◌≡◌, is_some};
-    ghost use Rattle.bye_terms.specs.Literals.{LiteralValue, is_lang_string};
-
-    ghost Value = { LiteralValue };
-
-    ghost view = { λ l. record { lexical = l.lexical; datatype = l.datatype; tag = l.tag } };
-
-    ghost invariant = { λ l. is_some l.tag ≡ is_lang_string l.datatype };
-}
-
-fn same_tag(one: &Option<Tag>, other: &Option<Tag>) -> bool
-    ensures { IsTrue result ↔ (one.now ≡ other.now) }
-{
-    match (one, other) {
-        (None, None) => true,
-        (Some(a), Some(b)) => a.same(b),
-        _ => false,
-    }
 }
 
 /// The spelling of a text that stands between two others as it is.
@@ -62,123 +32,6 @@ fn raw<'a>(head: &'a [u8], text: &'a Text, last: &'a [u8]) -> Spelling<'a>
         middle: b"",
         text: text.as_str().as_bytes(),
         last,
-    }
-}
-
-/// The spelling of a string, with what follows it in three pieces.
-fn quoted<'a>(lexical: &'a Text, middle: &'a [u8], text: &'a str, last: &'a [u8]) -> Spelling<'a>
-    ensures { left_of result ≡ codes "\"" ++ escaped (encode_utf8_all lexical.now) ++ middle.now ++ text.now ++ last.now }
-{
-    Spelling {
-        head: b"\"",
-        lexical: lexical.as_str().as_bytes(),
-        middle,
-        text: text.as_bytes(),
-        last,
-    }
-}
-
-fn copy_tag(alloc: Global, tag: &Option<Tag>) -> Result<Option<Tag>, Memory>
-    ensures { IfOk result (λ t. t ≡ tag.now) }
-{
-    match tag {
-        None => Ok(None),
-        Some(t) => Ok(Some(t.copy(alloc)?)),
-    }
-}
-
-impl Literal {
-    /// A literal without a language tag. None exactly where the datatype is rdf:langString.
-    pub fn typed(lexical: Text, datatype: Iri) -> Option<Literal>
-        ensures some { IfSome result (λ l. l ≡ record { lexical = lexical; datatype = datatype; tag = None }) }
-        ensures none { IsNone result ↔ (is_lang_string datatype ≡ true) }
-    {
-        if datatype.is_lang_string() {
-            return None;
-        }
-        Some(Literal {
-            lexical,
-            datatype,
-            tag: None,
-        })
-    }
-
-    /// A string without a language tag, whose datatype is xsd:string.
-    pub fn string(alloc: Global, lexical: Text) -> Result<Literal, Memory>
-        ensures { IfOk result (λ l. l ≡ record { lexical = lexical; datatype = xsd_string; tag = None }) }
-    {
-        let datatype = Iri::xsd_string(alloc)?;
-        Ok(Literal {
-            lexical,
-            datatype,
-            tag: None,
-        })
-    }
-
-    /// A string with a language tag, whose datatype is rdf:langString.
-    pub fn tagged(alloc: Global, lexical: Text, tag: Tag) -> Result<Literal, Memory>
-        ensures { IfOk result (λ l. l ≡ record { lexical = lexical; datatype = lang_string; tag = Some tag }) }
-    {
-        let datatype = Iri::lang_string(alloc)?;
-        Ok(Literal {
-            lexical,
-            datatype,
-            tag: Some(tag),
-        })
-    }
-
-    /// The lexical form.
-    pub fn lexical(&self) -> &Text
-        ensures { result.now ≡ self.now.lexical }
-    {
-        &self.lexical
-    }
-
-    /// The datatype.
-    pub fn datatype(&self) -> &Iri
-        ensures { result.now ≡ self.now.datatype }
-    {
-        &self.datatype
-    }
-
-    /// The language tag, where it has one.
-    pub fn tag(&self) -> &Option<Tag>
-        ensures { result.now ≡ self.now.tag }
-    {
-        &self.tag
-    }
-
-    /// Whether all parts of the two are equal, character by character.
-    pub fn same(&self, other: &Literal) -> bool
-        ensures { IsTrue result ↔ (self.now ≡ other.now) }
-    {
-        self.lexical.same(&other.lexical)
-            && self.datatype.same(&other.datatype)
-            && same_tag(&self.tag, &other.tag)
-    }
-
-    /// An equal literal.
-    pub fn copy(&self, alloc: Global) -> Result<Literal, Memory>
-        ensures { IfOk result (λ l. l ≡ self.now) }
-    {
-        let lexical = self.lexical.copy(alloc)?;
-        let datatype = self.datatype.copy(alloc)?;
-        let tag = copy_tag(alloc, &self.tag)?;
-        Ok(Literal {
-            lexical,
-            datatype,
-            tag,
-        })
-    }
-
-    fn spelling(&self) -> Spelling<'_>
-        ensures { left_of result ≡ literal_bytes self.now }
-    {
-        match &self.tag {
-            Some(tag) => quoted(&self.lexical, b"\"@", tag.text().as_str(), b""),
-            None if self.datatype.is_xsd_string() => quoted(&self.lexical, b"\"", "", b""),
-            None => quoted(&self.lexical, b"\"^^<", self.datatype.text().as_str(), b">"),
-        }
     }
 }
 
@@ -221,48 +74,6 @@ impl Term {
         ensures { result ≡ slice_cmp nat_cmp (term_bytes self.now) (term_bytes other.now) }
     {
         compare(self.spelling(), other.spelling())
-    }
-}
-
-/// A triple (RDF 1.1 Concepts, section 3.1): its subject is no literal, and its predicate is an IRI.
-#[derive(Debug, Drop)]
-pub struct Triple {
-    pub s: Term,
-    pub p: Term,
-    pub o: Term,
-}
-
-impl Model for Triple {
-    ghost use Rattle.std.specs.Prelude.{◌≡◌, true};
-    ghost use Rattle.bye_terms.specs.Terms.{Statement, IsTriple};
-
-    ghost Value = { Statement };
-
-    ghost view = { λ t. record { s = t.s; p = t.p; o = t.o } };
-
-    ghost invariant = { λ t. IsTriple (record { s = t.s; p = t.p; o = t.o }) };
-}
-
-impl Triple {
-    /// The subject.
-    pub fn s(&self) -> &Term
-        ensures { result.now ≡ self.now.s }
-    {
-        &self.s
-    }
-
-    /// The predicate.
-    pub fn p(&self) -> &Term
-        ensures { result.now ≡ self.now.p }
-    {
-        &self.p
-    }
-
-    /// The object.
-    pub fn o(&self) -> &Term
-        ensures { result.now ≡ self.now.o }
-    {
-        &self.o
     }
 }
 

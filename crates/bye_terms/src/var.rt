@@ -71,7 +71,7 @@ impl Var {
 
 #[cfg(test)]
 mod tests {
-    use crate::memory::keep;
+    use crate::memory::push_item;
     use crate::text::Text;
     use crate::var::Var;
     use std::alloc::Global;
@@ -97,7 +97,7 @@ mod tests {
             "\u{FFFD}",
             "\u{10000}",
         ] {
-            keep(&mut variables, variable(rt.alloc(), name)?)?;
+            push_item(&mut variables, variable(rt.alloc(), name)?)?;
         }
         for (i, one) in variables.iter().enumerate() {
             for (j, other) in variables.iter().enumerate() {

@@ -24,5 +24,5 @@ returns-clause-added c ok = record {
   name = c.in-Some.var;
   read = sym c.in_ok-var.ensures ∙ c.in-Some.is;
   fresh = fresh _ _ _ _ c.as_slice.ensures.value c.has.ensures.1 c.if-has.false;
-  items = c.in_ok-keep.ensures.ok;
+  items = c.in_ok-push_item.ensures.ok;
 }

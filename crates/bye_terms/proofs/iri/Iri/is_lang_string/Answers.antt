@@ -2,7 +2,7 @@ use Rattle.std.proofs.Common.{◌∙◌, ap, refl}
 use Rattle.std.specs.Str.{bytes_eq, encode_utf8_all}
 use Rattle.bye_terms.specs.Literals.{lang_string}
 use Rattle.bye_terms.proofs.Escapes.{same_as_ascii}
-use Rattle.bye_terms.proofs.parts.Iri.is_lang_string.Goals as goal
+use Rattle.bye_terms.proofs.iri.Iri.is_lang_string.Goals as goal
 
 pub returns : goal.returns
 returns c =

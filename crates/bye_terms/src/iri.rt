@@ -1,6 +1,6 @@
 ghost use Rattle.std.specs.Prelude.{◌≡◌, List, ℕ, IfOk, IfSome, IfNone, IsTrue, true, false, ◌↔◌};
 ghost use Rattle.bye_terms.specs.Literals as literals;
-ghost use Rattle.bye_terms.specs.Names.{is_iri, is_label, is_tag};
+ghost use Rattle.bye_terms.specs.Names.{is_iri};
 
 use crate::memory::Memory;
 use crate::rules;
@@ -88,115 +88,5 @@ impl Iri {
         ensures { result ≡ literals.is_lang_string self.now }
     {
         self.text.as_str() == "http://www.w3.org/1999/02/22-rdf-syntax-ns#langString"
-    }
-}
-
-/// The label of a blank node, without its `_:` (RDF 1.1 N-Triples, section 7).
-#[derive(Debug, Drop)]
-pub struct Label {
-    text: Text,
-}
-
-impl Model for Label {
-    ghost Value = { List ℕ };
-
-    ghost view = { λ i. i.text };
-
-    ghost invariant = { λ i. is_label i.text ≡ true };
-}
-
-impl Label {
-    /// None exactly where the text is no label.
-    pub fn from_text(text: Text) -> Option<Label>
-        ensures some { IfSome result (λ i. (i ≡ text) × IsTrue (is_label text)) }
-        ensures none { IfNone result (is_label text ≡ false) }
-    {
-        if rules::is_label(text.as_str()) {
-            Some(Label { text })
-        } else {
-            None
-        }
-    }
-
-    /// The text of the label, given up.
-    pub fn into_text(self) -> Text
-        ensures text { result ≡ self }
-        ensures valid { IsTrue (is_label self) }
-    {
-        self.text
-    }
-
-    /// The text of the label.
-    pub fn text(&self) -> &Text
-        ensures text { result.now ≡ self.now }
-        ensures valid { IsTrue (is_label self.now) }
-    {
-        &self.text
-    }
-
-    /// Whether the two are equal, character by character.
-    pub fn same(&self, other: &Label) -> bool
-        ensures { IsTrue result ↔ (self.now ≡ other.now) }
-    {
-        self.text.same(&other.text)
-    }
-
-    /// An equal one.
-    pub fn copy(&self, alloc: Global) -> Result<Label, Memory>
-        ensures { IfOk result (λ t. t ≡ self.now) }
-    {
-        let text = self.text.copy(alloc)?;
-        Ok(Label { text })
-    }
-}
-
-/// A language tag, without its `@` (RDF 1.1 N-Triples, section 7).
-#[derive(Debug, Drop)]
-pub struct Tag {
-    text: Text,
-}
-
-impl Model for Tag {
-    ghost Value = { List ℕ };
-
-    ghost view = { λ i. i.text };
-
-    ghost invariant = { λ i. is_tag i.text ≡ true };
-}
-
-impl Tag {
-    /// None exactly where the text is no language tag.
-    pub fn from_text(text: Text) -> Option<Tag>
-        ensures some { IfSome result (λ i. (i ≡ text) × IsTrue (is_tag text)) }
-        ensures none { IfNone result (is_tag text ≡ false) }
-    {
-        if rules::is_tag(text.as_str()) {
-            Some(Tag { text })
-        } else {
-            None
-        }
-    }
-
-    /// The text of the tag, in the case in which it was written.
-    pub fn text(&self) -> &Text
-        ensures text { result.now ≡ self.now }
-        ensures valid { IsTrue (is_tag self.now) }
-    {
-        &self.text
-    }
-
-    /// Whether the two are equal, character by character.
-    pub fn same(&self, other: &Tag) -> bool
-        ensures { IsTrue result ↔ (self.now ≡ other.now) }
-    {
-        self.text.same(&other.text)
-    }
-
-    /// An equal one.
-    pub fn copy(&self, alloc: Global) -> Result<Tag, Memory>
-        ensures { IfOk result (λ t. t ≡ self.now) }
-    {
-        let text = self.text.copy(alloc)?;
-        Ok(Tag { text })
     }
 }

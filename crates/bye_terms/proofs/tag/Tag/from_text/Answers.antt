@@ -1,7 +1,7 @@
 use Rattle.std.proofs.Common.{refl, sym, ◌∙◌}
 use Rattle.bye_terms.proofs.Texts.{tested}
 use Rattle.bye_terms.specs.Names.{is_tag}
-use Rattle.bye_terms.proofs.parts.Tag.from_text.Goals as goal
+use Rattle.bye_terms.proofs.tag.Tag.from_text.Goals as goal
 
 pub invariant_of-result : goal.invariant_of-result
 invariant_of-result c = sym (tested is_tag _ _ _ c.as_str.ensures.text c.as_str.ensures.scalars c.is_tag.ensures) ∙ c.if-is_tag.true

@@ -2,7 +2,7 @@ use Rattle.std.proofs.Common.{sym, ◌∙◌, ap}
 use Rattle.std.specs.Str.{encode_utf8_all}
 use Rattle.bye_terms.specs.Spellings.{literal_bytes}
 use Rattle.bye_terms.proofs.Escapes.{tagged_bytes, plain_bytes, typed_bytes}
-use Rattle.bye_terms.proofs.term.Literal.spelling.Goals as goal
+use Rattle.bye_terms.proofs.literal.Literal.spelling.Goals as goal
 
 pub returns-in-Some : goal.returns-in-Some
 returns-in-Some c =
