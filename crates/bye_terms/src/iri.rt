@@ -23,6 +23,14 @@ impl Model for Iri {
 }
 
 impl Iri {
+    /// The IRI of a text that is one.
+    pub fn new(text: Text) -> Iri
+        requires { is_iri text ≡ true }
+        ensures { result ≡ text }
+    {
+        Iri { text }
+    }
+
     /// None exactly where the text is no absolute IRI.
     pub fn from_text(text: Text) -> Option<Iri>
         ensures some { IfSome result (λ i. (i ≡ text) × IsTrue (is_iri text)) }
@@ -51,6 +59,14 @@ impl Iri {
         let mut text = Text::new(alloc);
         text.push_ascii("http://www.w3.org/1999/02/22-rdf-syntax-ns#langString")?;
         Ok(Iri { text })
+    }
+
+    /// The text of the IRI, given up.
+    pub fn into_text(self) -> Text
+        ensures text { result ≡ self }
+        ensures valid { IsTrue (is_iri self) }
+    {
+        self.text
     }
 
     /// The text of the IRI, which no `<` and no `>` stands around.

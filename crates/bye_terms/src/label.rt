@@ -22,6 +22,14 @@ impl Model for Label {
 }
 
 impl Label {
+    /// The label of a text that is one.
+    pub fn new(text: Text) -> Label
+        requires { is_label text ≡ true }
+        ensures { result ≡ text }
+    {
+        Label { text }
+    }
+
     /// None exactly where the text is no label.
     pub fn from_text(text: Text) -> Option<Label>
         ensures some { IfSome result (λ i. (i ≡ text) × IsTrue (is_label text)) }

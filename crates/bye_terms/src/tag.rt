@@ -22,6 +22,14 @@ impl Model for Tag {
 }
 
 impl Tag {
+    /// The tag of a text that is one.
+    pub fn new(text: Text) -> Tag
+        requires { is_tag text ≡ true }
+        ensures { result ≡ text }
+    {
+        Tag { text }
+    }
+
     /// None exactly where the text is no language tag.
     pub fn from_text(text: Text) -> Option<Tag>
         ensures some { IfSome result (λ i. (i ≡ text) × IsTrue (is_tag text)) }
@@ -32,6 +40,14 @@ impl Tag {
         } else {
             None
         }
+    }
+
+    /// The text of the tag, given up.
+    pub fn into_text(self) -> Text
+        ensures text { result ≡ self }
+        ensures valid { IsTrue (is_tag self) }
+    {
+        self.text
     }
 
     /// The text of the tag, in the case in which it was written.

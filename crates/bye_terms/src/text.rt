@@ -86,6 +86,14 @@ impl Text {
         Ok(())
     }
 
+    /// The text with one more character.
+    pub fn with_char(mut self, c: char) -> Result<Text, Memory>
+        ensures { IfOk result (λ t. t ≡ self ++ c ∷ []) }
+    {
+        self.push_char(c)?;
+        Ok(self)
+    }
+
     /// Puts characters of ASCII at the end.
     pub fn push_ascii(&mut self, s: &str) -> Result<(), Memory>
         requires { IsTrue (is_ascii s.now) }

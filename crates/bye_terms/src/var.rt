@@ -26,6 +26,14 @@ impl Model for Var {
 }
 
 impl Var {
+    /// The variable of a name that is one.
+    pub fn new(name: Text) -> Var
+        requires { is_name name ≡ true }
+        ensures { result ≡ name }
+    {
+        Var { text: name }
+    }
+
     /// None exactly where the text is no name of a variable.
     pub fn from_name(name: Text) -> Option<Var>
         ensures some { IfSome result (λ i. (i ≡ name) × IsTrue (is_name name)) }
@@ -36,6 +44,14 @@ impl Var {
         } else {
             None
         }
+    }
+
+    /// The name, given up.
+    pub fn into_name(self) -> Text
+        ensures text { result ≡ self }
+        ensures valid { IsTrue (is_name self) }
+    {
+        self.text
     }
 
     /// The name, without its mark.
