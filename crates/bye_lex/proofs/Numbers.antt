@@ -1,5 +1,9 @@
 -- Which numbers digits can still make.
 use Rattle.std.proofs.Common.{◌≡◌, refl, ℕ, zero, suc, ◌+◌, ◌*◌, ◌<◌, ◌≤◌, Bool, true, false, cond, nat_lt, ◌==◌, ◌&&◌, List, [], ◌∷◌, ◌++◌, Some, None, length, ap, arith}
+use Rattle.bye_lex.specs.declared.escape.Home.{Home}
+use Rattle.bye_lex.specs.declared.escape.Home.TheVariants.{Iri, Text}
+use Rattle.bye_lex.specs.declared.escape.EscapeAt.{EscapeAt}
+use Rattle.bye_lex.specs.declared.escape.EscapeStep.TheVariants.{Within, Whole}
 use Rattle.std.proofs.lemmas.Bool.Decides.{nat_tests}
 use Rattle.std.specs.Char.{digit_value}
 use Rattle.std.specs.List.{AllByRecursion}
@@ -7,8 +11,7 @@ use Rattle.std.specs.Str.{all_scalars}
 use Rattle.bye_terms.specs.Characters.{is_iri_char}
 use Rattle.bye_terms.proofs.Tests.{both_parts}
 use Rattle.bye_lex.specs.Escapes.{is_scalar, IsHex, number}
-use Rattle.bye_lex.specs.IriSteps.{is_open, is_beyond, is_iri_open, after_digit, step}
-use Rattle.bye_lex.specs.declared.iri.IriAt.TheVariants.{Digits, Body}
+use Rattle.bye_lex.specs.EscapeSteps.{is_open, is_beyond, may_be, after_digit, step}
 use Rattle.bye_lex.proofs.Branches.{unless, and_true}
 
 -- a number past the last character has no digits left
@@ -34,14 +37,18 @@ not_either : (a b : Bool) → a ≡ false → (a && b) ≡ false
 not_either true b e = cc
 not_either false b e = refl
 
-stays_closed : (left m : ℕ) (text : List ℕ) → is_open left m ≡ false → after_digit left m text ≡ None
-stays_closed zero m text e = unless (is_iri_open zero m) (Some (Body (text ++ m ∷ []))) None None (not_either (is_open zero m) (is_beyond zero m) e) refl
-stays_closed (suc left) m text e = unless (is_iri_open (suc left) m) (Some (Digits left m text)) None None (not_either (is_open (suc left) m) (is_beyond (suc left) m) e) refl
+cannot_be : (home : Home) (left m : ℕ) → is_open left m ≡ false → may_be home left m ≡ false
+cannot_be Iri left m e = not_either (is_open left m) (is_beyond left m) e
+cannot_be Text left m e = e
 
-pub never_open : (escapes : Bool) (left n : ℕ) (text : List ℕ) (c : ℕ) → 0x11_0000 ≤ n → step escapes (Digits left n text) c ≡ None
-never_open escapes left n text c h =
-    elim (nat_lt (digit_value c) 16) as (λ b. cond b (after_digit left (n * 16 + digit_value c) text) None ≡ None) [
-      | true ↦ stays_closed left (n * 16 + digit_value c) text (not_open left (n * 16 + digit_value c) (omega arith))
+stays_closed : (home : Home) (left m : ℕ) → is_open left m ≡ false → after_digit home left m ≡ None
+stays_closed home zero m e = unless (may_be home zero m) (Some (Whole m)) None None (cannot_be home zero m e) refl
+stays_closed home (suc left) m e = unless (may_be home (suc left) m) (Some (Within (record { left = left; number = m }))) None None (cannot_be home (suc left) m e) refl
+
+pub never_open : (home : Home) (at : EscapeAt) (c : ℕ) → 0x11_0000 ≤ at.number → step home at c ≡ None
+never_open home at c h =
+    elim (nat_lt (digit_value c) 16) as (λ b. cond b (after_digit home at.left (at.number * 16 + digit_value c)) None ≡ None) [
+      | true ↦ stays_closed home at.left (at.number * 16 + digit_value c) (not_open at.left (at.number * 16 + digit_value c) (omega arith))
       | false ↦ refl
     ]
 
@@ -134,33 +141,28 @@ beyond_down zero m e = iri_char_1 m (above_1 m e)
 beyond_down (suc zero) m e = past_one m
 beyond_down (suc (suc left)) m e = refl
 
-pub iri_up : (left m d : ℕ) → d < 16 → is_iri_open left (m * 16 + d) ≡ true → is_iri_open (suc left) m ≡ true
-iri_up left m d h e = let k = both_parts _ _ e in and_true _ _ (up left m d h k.0) (beyond_up left m d h k.1)
+-- of either home
+pub up_by : (home : Home) (left m d : ℕ) → d < 16 → may_be home left (m * 16 + d) ≡ true → may_be home (suc left) m ≡ true
+up_by Iri left m d h e = let k = both_parts _ _ e in and_true _ _ (up left m d h k.0) (beyond_up left m d h k.1)
+up_by Text left m d h e = up left m d h e
 
-pub iri_down : (left m : ℕ) → is_iri_open (suc left) m ≡ true → is_iri_open left (m * 16 + pick left) ≡ true
-iri_down left m e = let k = both_parts _ _ e in and_true _ _ (down left m k.0) (beyond_down left m k.1)
+pub down_by : (home : Home) (left m : ℕ) → may_be home (suc left) m ≡ true → may_be home left (m * 16 + pick left) ≡ true
+down_by Iri left m e = let k = both_parts _ _ e in and_true _ _ (down left m k.0) (beyond_down left m k.1)
+down_by Text left m e = down left m e
 
 pub below : (n : ℕ) → nat_lt n 16 ≡ true → n < 16
 below n e = grind (arith, nat_tests)
 
 -- digits that make an allowed character were open before each
-pub opened_before : (may_be : ℕ → ℕ → Bool) → ((left m d : ℕ) → d < 16 → may_be left (m * 16 + d) ≡ true → may_be (suc left) m ≡ true)
-    → (ds : List ℕ) (m left : ℕ) → AllByRecursion IsHex ds → length ds ≡ left → may_be zero (number m ds) ≡ true → may_be left m ≡ true
-opened_before may_be up_by [] m zero hex full a = a
-opened_before may_be up_by [] m (suc left) hex full a = absurd (omega (arith, full))
-opened_before may_be up_by (d ∷ ds) m zero hex full a = absurd (omega (arith, full))
-opened_before may_be up_by (d ∷ ds) m (suc left) (h, hex) full a = up_by left m (digit_value d) (below _ h) (opened_before may_be up_by ds (m * 16 + digit_value d) left hex (omega (arith, full)) a)
+pub opens : (home : Home) (ds : List ℕ) (m left : ℕ) → AllByRecursion IsHex ds → length ds ≡ left → may_be home zero (number m ds) ≡ true → may_be home left m ≡ true
+opens home [] m zero hex full a = a
+opens home [] m (suc left) hex full a = absurd (omega (arith, full))
+opens home (d ∷ ds) m zero hex full a = absurd (omega (arith, full))
+opens home (d ∷ ds) m (suc left) (h, hex) full a = up_by home left m (digit_value d) (below _ h) (opens home ds (m * 16 + digit_value d) left hex (omega (arith, full)) a)
 
 -- and where it is open there are such digits
-pub digits_from : (may_be : ℕ → ℕ → Bool) → ((left m : ℕ) → may_be (suc left) m ≡ true → may_be left (m * 16 + pick left) ≡ true)
-    → (left n : ℕ) → may_be left n ≡ true → (ds : List ℕ) × AllByRecursion IsHex ds × (length ds ≡ left) × (may_be zero (number n ds) ≡ true) × (all_scalars ds ≡ true)
-digits_from may_be down_by zero n e = ([], tt, refl, e, refl)
-digits_from may_be down_by (suc zero) n e = let k = digits_from may_be down_by zero (n * 16 + 1) (down_by zero n e) in (49 ∷ k.0, (refl, k.1), ap suc k.2, k.3, k.4)
-digits_from may_be down_by (suc (suc zero)) n e = let k = digits_from may_be down_by (suc zero) (n * 16 + 2) (down_by (suc zero) n e) in (50 ∷ k.0, (refl, k.1), ap suc k.2, k.3, k.4)
-digits_from may_be down_by (suc (suc (suc left))) n e = let k = digits_from may_be down_by (suc (suc left)) (n * 16 + 0) (down_by (suc (suc left)) n e) in (48 ∷ k.0, (refl, k.1), ap suc k.2, k.3, k.4)
-
-pub opens : (ds : List ℕ) (m left : ℕ) → AllByRecursion IsHex ds → length ds ≡ left → is_iri_open zero (number m ds) ≡ true → is_iri_open left m ≡ true
-opens = opened_before is_iri_open iri_up
-
-pub digits_for : (left n : ℕ) → is_iri_open left n ≡ true → (ds : List ℕ) × AllByRecursion IsHex ds × (length ds ≡ left) × (is_iri_open zero (number n ds) ≡ true) × (all_scalars ds ≡ true)
-digits_for = digits_from is_iri_open iri_down
+pub digits_for : (home : Home) (left n : ℕ) → may_be home left n ≡ true → (ds : List ℕ) × AllByRecursion IsHex ds × (length ds ≡ left) × (may_be home zero (number n ds) ≡ true) × (all_scalars ds ≡ true)
+digits_for home zero n e = ([], tt, refl, e, refl)
+digits_for home (suc zero) n e = let k = digits_for home zero (n * 16 + 1) (down_by home zero n e) in (49 ∷ k.0, (refl, k.1), ap suc k.2, k.3, k.4)
+digits_for home (suc (suc zero)) n e = let k = digits_for home (suc zero) (n * 16 + 2) (down_by home (suc zero) n e) in (50 ∷ k.0, (refl, k.1), ap suc k.2, k.3, k.4)
+digits_for home (suc (suc (suc left))) n e = let k = digits_for home (suc (suc left)) (n * 16 + 0) (down_by home (suc (suc left)) n e) in (48 ∷ k.0, (refl, k.1), ap suc k.2, k.3, k.4)

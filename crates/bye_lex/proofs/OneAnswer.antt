@@ -127,8 +127,8 @@ one_value Left step final x (c ∷ t) s v w j k =
     let n = x.forth s c t w k in
     one_value Left step final x t n.0 v w (subst (λ n. Left n t v) (some_same (sym m.1 ∙ n.1)) m.2) n.2
 
-pub one_iri : (escapes : Bool) → OneValue (IriToken escapes)
-one_iri escapes text v w j k = one_value (Left escapes) (step escapes) final (iri_exact escapes) text Start v w j k
+pub one_iri : (style : Style) → OneValue (IriToken style)
+one_iri style text v w j k = one_value (Left style) (step style) final (iri_exact style) text Start v w j k
 
 pub one_string : (style : Style) → OneValue (StringToken style)
 one_string style text v w j k = one_value (string_meaning.Left style) (string.step style) string.final (string_exact style) text strings.Start v w j k
@@ -144,7 +144,7 @@ one_name text v w j k = sym j.0 ∙ k.0
 
 pub readers_answer_once : ReadersAnswerOnce
 readers_answer_once = record {
-  iri = λ escapes. one_answer (IriToken escapes) (one_iri escapes);
+  iri = λ style. one_answer (IriToken style) (one_iri style);
   string = λ style. one_answer (StringToken style) (one_string style);
   label = one_answer LabelToken one_label;
   tag = one_answer TagToken one_tag;

@@ -3,15 +3,15 @@ use Rattle.std.proofs.Common.{◌≡◌, refl, ℕ, List, [], ◌∷◌, ◌++�
 use Rattle.bye_terms.specs.Literals.{LiteralValue, xsd_string}
 use Rattle.bye_terms.specs.declared.term.Term.TheVariants.{Iri, Blank, Lit}
 use Rattle.bye_lex.specs.Languages.{Token}
-use Rattle.bye_lex.specs.Iris.{has_numbers, IriToken}
+use Rattle.bye_lex.specs.Iris.{IriToken}
 use Rattle.bye_lex.specs.Marks.{LabelToken}
 use Rattle.bye_lex.specs.Strings.{mark_of, around, StringToken}
 use Rattle.bye_lex.specs.ReadingBack.{DatatypeText, SuffixText, LiteralText, OneTerm}
 use Rattle.bye_lex.specs.declared.style.Style.{Style}
-use Rattle.bye_lex.specs.declared.string.Quote.{Quote}
-use Rattle.bye_lex.specs.declared.string.Quote.TheVariants.{Double, Single}
-use Rattle.bye_lex.specs.declared.string.Quoting.{Quoting}
-use Rattle.bye_lex.specs.declared.string.Quoting.TheVariants.{Short, Long}
+use Rattle.bye_lex.specs.declared.quoting.Quote.{Quote}
+use Rattle.bye_lex.specs.declared.quoting.Quote.TheVariants.{Double, Single}
+use Rattle.bye_lex.specs.declared.quoting.Quoting.{Quoting}
+use Rattle.bye_lex.specs.declared.quoting.Quoting.TheVariants.{Short, Long}
 use Rattle.bye_lex.proofs.Branches.{heads}
 use Rattle.bye_lex.proofs.OneAnswer.{Further, fronts, one_iri, one_string, one_label, one_tag}
 
@@ -24,7 +24,7 @@ opens_with : (k : Quoting) (c : ℕ) (t tail : List ℕ) → c ∷ t ≡ around 
 opens_with (Short q) c t tail e = (q, (heads c (mark_of q) t tail e).0)
 opens_with (Long q) c t tail e = (q, (heads c (mark_of q) t (mark_of q ∷ mark_of q ∷ tail) e).0)
 
-no_iri_string : {P : Type 0} (style : Style) (text iri string suffix value : List ℕ) → IriToken (has_numbers style) text iri → StringToken style string value → text ≡ string ++ suffix → P
+no_iri_string : {P : Type 0} (style : Style) (text iri string suffix value : List ℕ) → IriToken style text iri → StringToken style string value → text ≡ string ++ suffix → P
 no_iri_string style text iri string suffix value j k e =
     let f = opens_with k.quoting 60 j.rest (k.tail ++ suffix) (sym j.spelled ∙ e ∙ ap (λ t. t ++ suffix) k.spelled ∙ append_assoc (around k.quoting) k.tail suffix) in
     absurd ((mark_is f.0).0 f.1)
@@ -37,7 +37,7 @@ no_label_string style text label string suffix value j k e =
 differ : ◌≡◌ {A = ℕ} 60 95 → ⊥
 differ e = omega (arith, e)
 
-no_iri_label : {P : Type 0} (style : Style) (text iri label : List ℕ) → IriToken (has_numbers style) text iri → LabelToken text label → P
+no_iri_label : {P : Type 0} (style : Style) (text iri label : List ℕ) → IriToken style text iri → LabelToken text label → P
 no_iri_label style text iri label j k = absurd (differ (heads 60 95 j.rest (58 ∷ label) (sym j.spelled ∙ k.0)).0)
 
 -- one string
@@ -82,7 +82,7 @@ one_suffix style suffix rest None None datatype other j k = (
       (λ (k : (suffix ≡ []) × (other ≡ xsd_string)). let f = sym k.0 ∙ j.parts in let no : ⊥ = cc in absurd no)
       (λ (k : DatatypeText style suffix rest other).
       let same = (heads 94 94 j.iri k.iri (heads 94 94 (94 ∷ j.iri) (94 ∷ k.iri) (sym j.parts ∙ k.parts)).1).1 in
-      one_iri (has_numbers style) k.iri datatype other (subst (λ t. IriToken (has_numbers style) t datatype) same j.is.is) k.is.is) k)
+      one_iri style k.iri datatype other (subst (λ t. IriToken style t datatype) same j.is.is) k.is.is) k)
       j,
 )
 
@@ -97,7 +97,7 @@ one_literal style text rest l m j k =
     λ i. record { lexical = lexical i; datatype = datatype i; tag = tag i }
 
 pub one_term : OneTerm
-one_term style text rest (Iri a) (Iri b) j k = ap Iri (one_iri (has_numbers style) text a b j.is k.is)
+one_term style text rest (Iri a) (Iri b) j k = ap Iri (one_iri style text a b j.is k.is)
 one_term style text rest (Iri a) (Blank b) j k = no_iri_label style text a b j.is k.is
 one_term style text rest (Iri a) (Lit b) j k = no_iri_string style text a k.string k.suffix b.lexical j.is k.is.is k.parts
 one_term style text rest (Blank a) (Iri b) j k = no_iri_label style text b a k.is j.is

@@ -10,7 +10,7 @@ use Rattle.bye_terms.specs.declared.term.Term.TheVariants.{Iri, Blank, Lit}
 use Rattle.bye_terms.proofs.Tests.{both_parts, one_part}
 use Rattle.bye_lex.specs.Languages.{Token}
 use Rattle.bye_lex.specs.Escapes.{Piece}
-use Rattle.bye_lex.specs.Iris.{has_numbers, IriToken, IriScheme, IriTail}
+use Rattle.bye_lex.specs.Iris.{IriToken, IriScheme, IriTail}
 use Rattle.bye_lex.specs.Strings.{mark_of, has_quoting, is_tsv, IsStringPiece, StringTail, StringToken}
 use Rattle.bye_lex.specs.IriSteps as iri
 use Rattle.bye_lex.specs.StringSteps as string
@@ -18,9 +18,9 @@ use Rattle.bye_lex.specs.Written.{escaped_in}
 use Rattle.bye_lex.specs.ReadingBack.{NotLonger, SuffixText, IsTagged, quoted, EndsLiteral, ReadsBack}
 use Rattle.bye_lex.specs.declared.style.Style.{Style}
 use Rattle.bye_lex.specs.declared.style.Style.TheVariants.{Triples, Tsv, Query}
-use Rattle.bye_lex.specs.declared.string.Quote.{Quote}
-use Rattle.bye_lex.specs.declared.string.Quote.TheVariants.{Double, Single}
-use Rattle.bye_lex.specs.declared.string.Quoting.TheVariants.{Short}
+use Rattle.bye_lex.specs.declared.quoting.Quote.{Quote}
+use Rattle.bye_lex.specs.declared.quoting.Quote.TheVariants.{Double, Single}
+use Rattle.bye_lex.specs.declared.quoting.Quoting.TheVariants.{Short}
 use Rattle.bye_lex.specs.declared.iri.IriAt.{IriAt}
 use Rattle.bye_lex.specs.declared.iri.IriAt.TheVariants as iris
 use Rattle.bye_lex.specs.declared.string.StringAt.{StringAt}
@@ -45,16 +45,16 @@ module _ {S V : Type 0} (Left : S → List ℕ → V → Type 0) (step : S → �
       goes_on m.0 t more v w m.2 (subst (λ n. Left n (t ++ more) w) same n.2)
 
 -- no IRI goes on
-iri_done : (x : Bool) (n : IriAt) (v w more : List ℕ) → iri.final n ≡ Some v → 0 < length more → iri_meaning.Left x n more w → ⊥
+iri_done : (x : Style) (n : IriAt) (v w more : List ℕ) → iri.final n ≡ Some v → 0 < length more → iri_meaning.Left x n more w → ⊥
 iri_done x iris.Start v w more e some h = none_some e
 iri_done x iris.Opened v w more e some h = none_some e
 iri_done x (iris.Scheme out) v w more e some h = none_some e
 iri_done x (iris.Body out) v w more e some h = none_some e
 iri_done x (iris.Backslash out) v w more e some h = none_some e
-iri_done x (iris.Digits left n out) v w more e some h = none_some e
+iri_done x (iris.Escape at out) v w more e some h = none_some e
 iri_done x (iris.Done out) v w more e some h = omega (arith, some, ap length h.0)
 
-iri_alone : (x : Bool) (text value rest : List ℕ) → IriToken x text value → Token (IriToken x) text rest value
+iri_alone : (x : Style) (text value rest : List ℕ) → IriToken x text value → Token (IriToken x) text rest value
 iri_alone x text value rest h = record {
   is = h;
   longest = λ more after other parts some k.
@@ -73,7 +73,7 @@ string_done x (strings.Empty q) v w c more e other h =
     h
 string_done x (strings.In k out) v w c more e other h = none_some e
 string_done x (strings.Backslash k out) v w c more e other h = none_some e
-string_done x (strings.Digits k left n out) v w c more e other h = none_some e
+string_done x (strings.Escape k at out) v w c more e other h = none_some e
 string_done x (strings.OneQuote q out) v w c more e other h = none_some e
 string_done x (strings.TwoQuotes q out) v w c more e other h = none_some e
 string_done x (strings.Done out) v w c more e other h = let f = h.0 in cc
@@ -94,7 +94,7 @@ no_caret Double e = omega (arith, e)
 no_caret Single e = omega (arith, e)
 
 -- an IRI as it is written
-iri_chars : (x : Bool) (text : List ℕ) → list_all is_iri_char text ≡ true → IriTail x (text ++ 62 ∷ []) text
+iri_chars : (x : Style) (text : List ℕ) → list_all is_iri_char text ≡ true → IriTail x (text ++ 62 ∷ []) text
 iri_chars x [] e = record { pieces = []; each = tt; spelled = refl; stands = refl }
 iri_chars x (c ∷ cs) e =
     let k = both_parts (is_iri_char c) _ e in
@@ -106,7 +106,7 @@ iri_chars x (c ∷ cs) e =
       stands = ap (λ t. c ∷ t) h.stands;
     }
 
-iri_scheme : (x : Bool) (text : List ℕ) → is_after_letter text ≡ true → IriScheme x (text ++ 62 ∷ []) text
+iri_scheme : (x : Style) (text : List ℕ) → is_after_letter text ≡ true → IriScheme x (text ++ 62 ∷ []) text
 iri_scheme x [] e = absurd (differ e)
   where
     differ : false ≡ true → ⊥
@@ -119,7 +119,7 @@ iri_scheme x (c ∷ cs) e =
     record { scheme = c ∷ h.scheme; each = (k.0, h.each); tail = h.tail; tail_value = h.tail_value; after = h.after; spelled = ap (λ t. c ∷ t) h.spelled; stands = ap (λ t. c ∷ t) h.stands })
     (one_part (c == 58 && list_all is_iri_char cs) (is_scheme_char c && is_after_letter cs) e)
 
-iri_token : (x : Bool) (text : List ℕ) → is_iri text ≡ true → IriToken x (codes "<" ++ text ++ codes ">") text
+iri_token : (x : Style) (text : List ℕ) → is_iri text ≡ true → IriToken x (codes "<" ++ text ++ codes ">") text
 iri_token x [] e = absurd (differ e)
   where
     differ : false ≡ true → ⊥
@@ -177,7 +177,7 @@ plain_suffix : (x : Style) (lexical datatype rest : List ℕ) (b : Bool) → is_
     → Suffix x lexical (cond b [] (codes "^^<" ++ datatype ++ codes ">")) rest None datatype
 plain_suffix x lexical datatype rest true e valid last = let same = (bytes_eq-Decides datatype xsd_string).0 e in (inl (refl, same), last same)
 plain_suffix x lexical datatype rest false e valid last = (
-  inr (record { iri = codes "<" ++ datatype ++ codes ">"; parts = refl; is = iri_alone (has_numbers x) (codes "<" ++ datatype ++ codes ">") datatype rest (iri_token (has_numbers x) datatype valid) }),
+  inr (record { iri = codes "<" ++ datatype ++ codes ">"; parts = refl; is = iri_alone x (codes "<" ++ datatype ++ codes ">") datatype rest (iri_token x datatype valid) }),
   string_before x (quoted x lexical) lexical 94 _ no_caret (string_token x lexical),
 )
 
@@ -187,7 +187,7 @@ suffix_is x lexical (Some tag) datatype rest valid last =
 suffix_is x lexical None datatype rest valid last = plain_suffix x lexical datatype rest (is_xsd_string datatype) refl valid.0 last
 
 pub reads_back : ReadsBack
-reads_back x (Iri text) rest valid last = iri_alone (has_numbers x) (codes "<" ++ text ++ codes ">") text rest (iri_token (has_numbers x) text valid)
+reads_back x (Iri text) rest valid last = iri_alone x (codes "<" ++ text ++ codes ">") text rest (iri_token x text valid)
 reads_back x (Blank label) rest valid last = record { is = (refl, valid); longest = last }
 reads_back x (Lit literal) rest valid last =
     let s = suffix_is x literal.lexical literal.tag literal.datatype rest valid last in

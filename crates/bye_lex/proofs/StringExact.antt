@@ -1,28 +1,31 @@
 -- The machine of strings reads strings.
-use Rattle.std.proofs.Common.{◌≡◌, refl, ℕ, zero, suc, ◌+◌, ◌*◌, ◌<◌, Bool, true, false, cond, nat_lt, ◌==◌, ◌&&◌, List, [], ◌∷◌, ◌++◌, Option, Some, None, ◌⊎◌, inl, inr, ⊎_elim, length, sym, ◌∙◌, ap, subst, append_assoc, arith, replicate}
+use Rattle.std.proofs.Common.{◌≡◌, refl, ℕ, zero, suc, ◌+◌, ◌*◌, ◌<◌, Bool, true, false, cond, nat_lt, ◌==◌, ◌&&◌, List, [], ◌∷◌, ◌++◌, Option, Some, None, option_map, ◌⊎◌, inl, inr, ⊎_elim, length, sym, ◌∙◌, ap, subst, append_assoc, arith, replicate}
 use Rattle.std.specs.List.{AllByRecursion}
-use Rattle.std.specs.Char.{digit_value}
 use Rattle.std.specs.Str.{all_scalars}
 use Rattle.std.proofs.lemmas.List.{append-nil}
 use Rattle.bye_terms.proofs.Tests.{bool_cases, both_parts}
 use Rattle.bye_lex.specs.Languages.{Viable}
-use Rattle.bye_lex.specs.Escapes.{is_scalar, IsHex, number, Piece, IsRaw, IsEscape}
+use Rattle.bye_lex.specs.Escapes.{is_scalar, number, Piece, IsRaw, IsEscape}
+use Rattle.bye_lex.specs.EscapeSteps as escapes
 use Rattle.bye_lex.specs.Iris.{has_numbers}
-use Rattle.bye_lex.specs.IriSteps.{is_open}
 use Rattle.bye_lex.specs.Strings.{mark_of, around, has_quoting, may_stand, named, IsNamed, quote_of, StringTail, StringToken}
-use Rattle.bye_lex.specs.StringSteps.{opened, inside, after_backslash, after_digit, step, final}
+use Rattle.bye_lex.specs.StringSteps.{opened, inside, after_backslash, after_escape, step, final}
+use Rattle.bye_lex.specs.declared.escape.Home.TheVariants as homes
+use Rattle.bye_lex.specs.declared.escape.EscapeAt.{EscapeAt}
+use Rattle.bye_lex.specs.declared.escape.EscapeStep.{EscapeStep}
+use Rattle.bye_lex.specs.declared.escape.EscapeStep.TheVariants.{Within, Whole}
 use Rattle.bye_lex.specs.declared.style.Style.{Style}
 use Rattle.bye_lex.specs.declared.style.Style.TheVariants.{Triples, Tsv, Query}
-use Rattle.bye_lex.specs.declared.string.Quote.{Quote}
-use Rattle.bye_lex.specs.declared.string.Quote.TheVariants.{Double, Single}
-use Rattle.bye_lex.specs.declared.string.Quoting.{Quoting}
-use Rattle.bye_lex.specs.declared.string.Quoting.TheVariants.{Short, Long}
+use Rattle.bye_lex.specs.declared.quoting.Quote.{Quote}
+use Rattle.bye_lex.specs.declared.quoting.Quote.TheVariants.{Double, Single}
+use Rattle.bye_lex.specs.declared.quoting.Quoting.{Quoting}
+use Rattle.bye_lex.specs.declared.quoting.Quoting.TheVariants.{Short, Long}
 use Rattle.bye_lex.specs.declared.string.StringAt.{StringAt}
-use Rattle.bye_lex.specs.declared.string.StringAt.TheVariants.{Start, Opened, Empty, In, Backslash, Digits, OneQuote, TwoQuotes, Done}
-use Rattle.bye_lex.proofs.Branches.{when, unless, chosen, eqb_same, same_eqb, never, heads, some_same, none_some, snoc, pick_of, pick_not, scalars_join}
+use Rattle.bye_lex.specs.declared.string.StringAt.TheVariants.{Start, Opened, Empty, In, Backslash, Escape, OneQuote, TwoQuotes, Done}
+use Rattle.bye_lex.proofs.Branches.{when, unless, chosen, eqb_same, same_eqb, never, heads, some_same, none_some, snoc, pick_of, pick_not, mapped}
 use Rattle.bye_lex.proofs.Scans.{Exact}
-use Rattle.bye_lex.proofs.Numbers.{up, down, opened_before, digits_from}
-use Rattle.bye_lex.proofs.Meanings.{After, EscapeTail}
+use Rattle.bye_lex.proofs.EscapeExact.{IsNumbered, IsOpen, escape_forth, escape_back, begin_forth, begin_back, can_escape, begin_open, step_open, no_digits}
+use Rattle.bye_lex.proofs.Meanings.{After, EscapeTail, EscapeLeft}
 use Rattle.bye_lex.proofs.StringMeaning.{Beyond, Left}
 use Rattle.bye_lex.proofs.StringTails.{Spells, Closes, Quoted, view, tail_end, spell, backslash_is_out, backslash_no_quote, not_quoted, not_nothing, spelled, closes_short, closes_long, one_off, two_off, quotes_on}
 
@@ -162,37 +165,16 @@ forth_two x q out c t v h =
     let n : Next x (TwoQuotes q out) c t v = (i.0, unless _ _ _ _ b i.1, i.2) in n)
     (bool_cases (c == mark_of q))
 
-escaped_on : (x : Style) (k : Quoting) (out : List ℕ) (p : Piece) (mark left c : ℕ) (t w v rest rest_value : List ℕ) → has_numbers x ≡ true → IsEscape p mark (suc left) → StringTail x k rest rest_value
-    → 92 ∷ c ∷ t ≡ p.text ++ rest → w ≡ p.char ∷ rest_value → v ≡ out ++ w → (c ≡ mark) × Left x (Digits k left 0 out) t v
-escaped_on x k out p mark left c t w v rest rest_value has e tail f g h =
-    let one = heads 92 92 (c ∷ t) (mark ∷ e.digits ++ rest) (f ∙ ap (λ xs. xs ++ rest) e.text) in
-    let two = heads c mark t (e.digits ++ rest) one.1 in (
-      two.0,
-      (
-        has,
-        record {
-          own = w;
-          is = record {
-            digits = e.digits;
-            tail = rest;
-            tail_value = rest_value;
-            hex = e.hex;
-            full = e.full;
-            allowed = subst (λ c. is_scalar c ≡ true) e.char e.scalar;
-            after = tail;
-            spelled = two.1;
-            stands = g ∙ ap (λ c. c ∷ rest_value) e.char;
-          };
-          stands = h;
-        },
-      ),
-    )
+-- a mark of an escape by number is no other mark
+numbered_only : (c : ℕ) (at : EscapeAt) → escapes.begin c ≡ Some at → named c ≡ None
+numbered_only c at e =
+    pick_of (c == 117) _ at _ e (λ b k. ap named (eqb_same c 117 b)) (λ k. pick_of (c == 85) _ at None k (λ b k. ap named (eqb_same c 85 b)) (λ k. none_some k))
 
-to_four : (x : Style) (k : Quoting) (out : List ℕ) → has_numbers x ≡ true → step x (Backslash k out) 117 ≡ Some (Digits k 3 0 out)
-to_four x k out has = when (has_numbers x) _ _ has
+scalar_of : (p : Piece) → IsNumbered p → is_scalar p.char ≡ true
+scalar_of p is = ⊎_elim (λ k. k.scalar) (λ k. k.scalar) is
 
-to_eight : (x : Style) (k : Quoting) (out : List ℕ) → has_numbers x ≡ true → step x (Backslash k out) 85 ≡ Some (Digits k 7 0 out)
-to_eight x k out has = when (has_numbers x) _ _ has
+to_escape : (x : Style) (k : Quoting) (out : List ℕ) (c : ℕ) (at : EscapeAt) → has_numbers x ≡ true → escapes.begin c ≡ Some at → step x (Backslash k out) c ≡ Some (Escape k at out)
+to_escape x k out c at has e = ap (λ o. after_backslash x k out c o) (numbered_only c at e) ∙ when (has_numbers x) _ _ has ∙ ap (λ o. option_map (λ at. Escape k at out) o) e
 
 forth_backslash : (x : Style) (k : Quoting) (out : List ℕ) (c : ℕ) (t v : List ℕ) → Left x (Backslash k out) (c ∷ t) v → Next x (Backslash k out) c t v
 forth_backslash x k out c t v h =
@@ -213,45 +195,24 @@ forth_backslash x k out c t v h =
       ap (λ o. after_backslash x k out c o) is,
       record { own = s.rest_value; is = subst (λ t. StringTail x k t s.rest_value) (sym two.1) s.tail; stands = h.stands ∙ ap (λ w. out ++ w) s.value ∙ snoc out s.rest_value s.piece.char },
     ) in n)
-    (λ (r : (has_numbers x ≡ true) × (IsEscape s.piece 117 4 ⊎ IsEscape s.piece 85 8)).
-    ⊎_elim
-    (λ (e : IsEscape s.piece 117 4).
-    let d = escaped_on x k out s.piece 117 3 c t h.own v s.rest s.rest_value r.0 e s.tail s.text s.value h.stands in
-    let n : Next x (Backslash k out) c t v = (Digits k 3 0 out, ap (λ c. step x (Backslash k out) c) d.0 ∙ to_four x k out r.0, d.1) in n)
-    (λ (e : IsEscape s.piece 85 8).
-    let d = escaped_on x k out s.piece 85 7 c t h.own v s.rest s.rest_value r.0 e s.tail s.text s.value h.stands in
-    let n : Next x (Backslash k out) c t v = (Digits k 7 0 out, ap (λ c. step x (Backslash k out) c) d.0 ∙ to_eight x k out r.0, d.1) in n)
-    r.1)
+    (λ (r : (has_numbers x ≡ true) × IsNumbered s.piece).
+    let d = begin_forth homes.Text (StringTail x k) s.piece c t s.rest s.rest_value r.1 (scalar_of s.piece r.1) s.tail s.text in
+    let n : Next x (Backslash k out) c t v = (
+      Escape k d.0 out,
+      to_escape x k out c d.0 r.0 d.1,
+      (r.0, record { own = h.own; is = subst (λ w. EscapeTail homes.Text (StringTail x k) d.0 t w) (sym s.value) d.2; stands = h.stands }),
+    ) in n)
     r)
     s.is
 
-forth_digits : (x : Style) (k : Quoting) → has_numbers x ≡ true → (left n : ℕ) (out ds tail tv : List ℕ) (c : ℕ) (t w v : List ℕ) → AllByRecursion IsHex ds → length ds ≡ suc left → is_scalar (number n ds) ≡ true
-    → StringTail x k tail tv → c ∷ t ≡ ds ++ tail → w ≡ number n ds ∷ tv → v ≡ out ++ w → Next x (Digits k left n out) c t v
-forth_digits x k has left n out [] tail tv c t w v hex full a after e f g = absurd (omega (arith, full))
-forth_digits x k has zero n out (d ∷ []) tail tv c t w v (h, hex) full a after e f g =
-    let s = heads c d t tail e in
-    let m = n * 16 + digit_value d in
-    let same : digit_value c ≡ digit_value d = ap digit_value s.0 in (
-      In k (out ++ m ∷ []),
-      ap (λ y. cond (nat_lt y 16) (after_digit zero k (n * 16 + y) out) None) same ∙ when _ _ _ h ∙ when _ _ _ a,
-      record { own = tv; is = subst (λ t. StringTail x k t tv) (sym s.1) after; stands = g ∙ ap (λ w. out ++ w) f ∙ snoc out tv m },
-    )
-forth_digits x k has zero n out (d ∷ d2 ∷ ds) tail tv c t w v hex full a after e f g = absurd (omega (arith, full))
-forth_digits x k has (suc left) n out (d ∷ ds) tail tv c t w v (h, hex) full a after e f g =
-    let s = heads c d t (ds ++ tail) e in
-    let m = n * 16 + digit_value d in
-    let same : digit_value c ≡ digit_value d = ap digit_value s.0 in (
-      Digits k left m out,
-      ap (λ y. cond (nat_lt y 16) (after_digit (suc left) k (n * 16 + y) out) None) same ∙ when _ _ _ h ∙ when _ _ _ (opened_before is_open up ds m (suc left) hex (omega (arith, full)) a),
-      (
-        has,
-        record {
-          own = w;
-          is = record { digits = ds; tail = tail; tail_value = tv; hex = hex; full = omega (arith, full); allowed = a; after = after; spelled = s.1; stands = f };
-          stands = g;
-        },
-      ),
-    )
+escape_to : (x : Style) (k : Quoting) → has_numbers x ≡ true → (out : List ℕ) (n : EscapeStep) (t own v : List ℕ) → EscapeLeft homes.Text (StringTail x k) n t own → v ≡ out ++ own → Left x (after_escape k out n) t v
+escape_to x k has out (Within at) t own v h e = (has, record { own = own; is = h; stands = e })
+escape_to x k has out (Whole c) t own v h e = record { own = h.own; is = h.is; stands = e ∙ ap (λ w. out ++ w) h.stands ∙ snoc out h.own c }
+
+forth_escape : (x : Style) (k : Quoting) → has_numbers x ≡ true → (at : EscapeAt) (out : List ℕ) (c : ℕ) (t v : List ℕ) → After (EscapeTail homes.Text (StringTail x k) at) out (c ∷ t) v → Next x (Escape k at out) c t v
+forth_escape x k has at out c t v h =
+    let n = escape_forth homes.Text (StringTail x k) at c t h.own h.is in
+    (after_escape k out n.0, ap (λ o. option_map (after_escape k out) o) n.1, escape_to x k has out n.0 t h.own v n.2 h.stands)
 
 forth : (x : Style) (s : StringAt) (c : ℕ) (t v : List ℕ) → Left x s (c ∷ t) v → Next x s c t v
 forth x Start c t v h = forth_start x c t v h.quoting h.has h.tail h.after h.spelled
@@ -259,7 +220,7 @@ forth x (Opened q) c t v h = forth_opened x q c t v h
 forth x (Empty q) c t v h = forth_empty x q c t v h
 forth x (In k out) c t v h = forth_in x k out c t v h
 forth x (Backslash k out) c t v h = forth_backslash x k out c t v h
-forth x (Digits k left n out) c t v (has, h) = forth_digits x k has left n out h.is.digits h.is.tail h.is.tail_value c t h.own v h.is.hex h.is.full h.is.allowed h.is.after h.is.spelled h.is.stands h.stands
+forth x (Escape k at out) c t v (has, h) = forth_escape x k has at out c t v h
 forth x (OneQuote q out) c t v h = forth_one x q out c t v h
 forth x (TwoQuotes q out) c t v h = forth_two x q out c t v h
 forth x (Done out) c t v h = cc
@@ -344,12 +305,13 @@ back_two x q out n c t v e h =
     (λ b e. let a = leave x (Long q) (out ++ mark_of q ∷ mark_of q ∷ []) n c t v e h in
     record { own = mark_of q ∷ mark_of q ∷ a.own; is = quotes_on x q 2 c t a.own (omega arith) a.is b; stands = a.stands ∙ append_assoc out (mark_of q ∷ mark_of q ∷ []) a.own })
 
-escape : (x : Style) (k : Quoting) → has_numbers x ≡ true → (mark left : ℕ) (t w : List ℕ) → EscapeTail is_scalar (StringTail x k) left 0 t w → ((p : Piece) → IsEscape p mark left → IsEscape p 117 4 ⊎ IsEscape p 85 8) → StringTail x k (92 ∷ mark ∷ t) w
-escape x k has mark left t w h spells =
-    let p : Piece = record { text = 92 ∷ mark ∷ h.digits; char = number 0 h.digits } in
-    let e : IsEscape p mark left = record { digits = h.digits; text = refl; hex = h.hex; full = h.full; char = refl; scalar = h.allowed } in
-    let all = spell x k p h.tail h.tail_value (inr (inr (has, spells p e))) h.after in
-    subst (λ w. StringTail x k (92 ∷ mark ∷ t) w) (sym h.stands) (subst (λ t. StringTail x k (92 ∷ mark ∷ t) (number 0 h.digits ∷ h.tail_value)) (sym h.spelled) all)
+back_numbered : (x : Style) (k : Quoting) (out : List ℕ) (n : StringAt) (c : ℕ) (t v : List ℕ) → option_map (λ at. Escape k at out) (escapes.begin c) ≡ Some n → Left x n t v → Left x (Backslash k out) (c ∷ t) v
+back_numbered x k out n c t v e h =
+    let m = mapped (λ at. Escape k at out) (escapes.begin c) n e in
+    let a : (has_numbers x ≡ true) × After (EscapeTail homes.Text (StringTail x k) m.0) out t v = at x n (Escape k m.0 out) t v (sym m.2) h in
+    let b = begin_back homes.Text (StringTail x k) m.0 c t a.1.own m.1 a.1.is in
+    let all = spell x k b.piece b.tail b.tail_value (inr (inr (a.0, b.numbered))) b.after in
+    record { own = a.1.own; is = subst (λ w. StringTail x k (92 ∷ c ∷ t) w) (sym b.value) (subst (λ t. StringTail x k t (b.piece.char ∷ b.tail_value)) (sym b.text) all); stands = a.1.stands }
 
 back_backslash : (x : Style) (k : Quoting) (out : List ℕ) (n : StringAt) (c : ℕ) (t v : List ℕ) → Before x (Backslash k out) n c t v
 back_backslash x k out n c t v e h =
@@ -358,36 +320,18 @@ back_backslash x k out n c t v e h =
           let a : After (StringTail x k) (out ++ d ∷ []) t v = at x n (In k (out ++ d ∷ [])) t v (sym (some_same e)) h in
           let p : Piece = record { text = 92 ∷ c ∷ []; char = d } in
           record { own = d ∷ a.own; is = spell x k p t a.own (inr (inl (record { mark = c; text = refl; char = is }))) a.is; stands = a.stands ∙ sym (snoc out a.own d) }
-      | None ↦ λ is e. pick_of (c == 117 && has_numbers x) _ _ (cond (c == 85 && has_numbers x) (Some (Digits k 7 0 out)) None) e
-          (λ b m. let f = both_parts (c == 117) (has_numbers x) b in
-          let a : (has_numbers x ≡ true) × After (EscapeTail is_scalar (StringTail x k) 4 0) out t v = at x n (Digits k 3 0 out) t v m h in
-          record { own = a.1.own; is = subst (λ m. StringTail x k (92 ∷ m ∷ t) a.1.own) (sym (eqb_same c 117 f.0)) (escape x k a.0 117 4 t a.1.own a.1.is (λ p k. inl k)); stands = a.1.stands })
-          (λ e. pick_of (c == 85 && has_numbers x) _ _ None e
-          (λ b m. let f = both_parts (c == 85) (has_numbers x) b in
-          let a : (has_numbers x ≡ true) × After (EscapeTail is_scalar (StringTail x k) 8 0) out t v = at x n (Digits k 7 0 out) t v m h in
-          record { own = a.1.own; is = subst (λ m. StringTail x k (92 ∷ m ∷ t) a.1.own) (sym (eqb_same c 85 f.0)) (escape x k a.0 85 8 t a.1.own a.1.is (λ p k. inr k)); stands = a.1.stands })
-          (λ e. none_some e))
+      | None ↦ λ is e. ⊎_elim (λ f. back_numbered x k out n c t v f.1 h) (λ f. none_some f.1) (chosen (has_numbers x) _ _ _ e)
     ] refl e
 
-digit_of : (c left n : ℕ) (k : Quoting) (out : List ℕ) (s : StringAt) → cond (nat_lt (digit_value c) 16) (after_digit left k (n * 16 + digit_value c) out) None ≡ Some s
-    → (nat_lt (digit_value c) 16 ≡ true) × (after_digit left k (n * 16 + digit_value c) out ≡ Some s)
-digit_of c left n k out s e = ⊎_elim (λ h. h) (λ h. none_some h.1) (chosen _ _ _ _ e)
+escape_from : (x : Style) (k : Quoting) (out : List ℕ) (n : EscapeStep) (t v : List ℕ) → Left x (after_escape k out n) t v → After (EscapeLeft homes.Text (StringTail x k) n) out t v
+escape_from x k out (Within at) t v h = h.1
+escape_from x k out (Whole c) t v h = record { own = c ∷ h.own; is = record { own = h.own; is = h.is; stands = refl }; stands = h.stands ∙ sym (snoc out h.own c) }
 
-back_digits : (x : Style) (k : Quoting) → has_numbers x ≡ true → (left m : ℕ) (out : List ℕ) (n : StringAt) (c : ℕ) (t v : List ℕ) → Before x (Digits k left m out) n c t v
-back_digits x k has zero m out n c t v e h =
-    let d = digit_of c zero m k out n e in
-    pick_of _ _ _ _ d.1
-    (λ b f. let y = m * 16 + digit_value c in
-    let a : After (StringTail x k) (out ++ y ∷ []) t v = at x n (In k (out ++ y ∷ [])) t v f h in
-    (has, record { own = y ∷ a.own; is = record { digits = c ∷ []; tail = t; tail_value = a.own; hex = (d.0, tt); full = refl; allowed = b; after = a.is; spelled = refl; stands = refl }; stands = a.stands ∙ sym (snoc out a.own y) }))
-    (λ e. none_some e)
-back_digits x k has (suc left) m out n c t v e h =
-    let d = digit_of c (suc left) m k out n e in
-    pick_of _ _ _ _ d.1
-    (λ b f. let y = m * 16 + digit_value c in
-    let a : (has_numbers x ≡ true) × After (EscapeTail is_scalar (StringTail x k) (suc left) y) out t v = at x n (Digits k left y out) t v f h in
-    (has, record { own = a.1.own; is = record { digits = c ∷ a.1.is.digits; tail = a.1.is.tail; tail_value = a.1.is.tail_value; hex = (d.0, a.1.is.hex); full = ap suc a.1.is.full; allowed = a.1.is.allowed; after = a.1.is.after; spelled = ap (λ t. c ∷ t) a.1.is.spelled; stands = a.1.is.stands }; stands = a.1.stands }))
-    (λ e. none_some e)
+back_escape : (x : Style) (k : Quoting) → has_numbers x ≡ true → (e : EscapeAt) (out : List ℕ) (n : StringAt) (c : ℕ) (t v : List ℕ) → Before x (Escape k e out) n c t v
+back_escape x k has e out n c t v step_is h =
+    let m = mapped (after_escape k out) (escapes.step homes.Text e c) n step_is in
+    let a = escape_from x k out m.0 t v (at x n (after_escape k out m.0) t v (sym m.2) h) in
+    (has, record { own = a.own; is = escape_back homes.Text (StringTail x k) e m.0 c t a.own m.1 a.is; stands = a.stands })
 
 back : (x : Style) (s n : StringAt) (c : ℕ) (t v : List ℕ) → Viable (Left x s) [] → Before x s n c t v
 back x Start n c t v a e h = back_start x n c t v e h
@@ -395,7 +339,7 @@ back x (Opened q) n c t v a e h = back_opened x q n c t v e h
 back x (Empty q) n c t v a e h = back_empty x q n c t v e h
 back x (In k out) n c t v a e h = back_in x k out n c t v e h
 back x (Backslash k out) n c t v a e h = back_backslash x k out n c t v e h
-back x (Digits k left m out) n c t v a e h = back_digits x k a.whole.0 left m out n c t v e h
+back x (Escape k at out) n c t v a e h = back_escape x k a.whole.0 at out n c t v e h
 back x (OneQuote q out) n c t v a e h = back_one x q out n c t v e h
 back x (TwoQuotes q out) n c t v a e h = back_two x q out n c t v e h
 back x (Done out) n c t v a e h = none_some e
@@ -422,15 +366,14 @@ can_backslash x k out = record {
   whole = record { own = 10 ∷ []; is = spell x k (record { text = 92 ∷ 110 ∷ []; char = 10 }) (around k) [] (inr (inl (record { mark = 110; text = refl; char = refl }))) (tail_end x k); stands = refl };
 }
 
-can_digits : (x : Style) (k : Quoting) → has_numbers x ≡ true → (left n : ℕ) (out : List ℕ) → is_open (suc left) n ≡ true → Viable (Left x (Digits k left n out)) []
-can_digits x k has left n out e =
-    let d = digits_from is_open down (suc left) n e in
-    record {
-      more = d.0 ++ around k;
-      scalars = scalars_join d.0 (around k) d.4 (around_scalars k);
-      value = out ++ number n d.0 ∷ [];
-      whole = (has, record { own = number n d.0 ∷ []; is = record { digits = d.0; tail = around k; tail_value = []; hex = d.1; full = d.2; allowed = d.3; after = tail_end x k; spelled = refl; stands = refl }; stands = refl });
-    }
+can_digits : (x : Style) (k : Quoting) → has_numbers x ≡ true → (at : EscapeAt) (out : List ℕ) → escapes.may_be homes.Text (suc at.left) at.number ≡ true → Viable (Left x (Escape k at out)) []
+can_digits x k has at out e =
+    let g = can_escape homes.Text (StringTail x k) at (around k) [] e (tail_end x k) (around_scalars k) in
+    record { more = g.digits ++ around k; scalars = g.scalars; value = out ++ number at.number g.digits ∷ []; whole = (has, record { own = number at.number g.digits ∷ []; is = g.left; stands = refl }) }
+
+can_after : (x : Style) (k : Quoting) → has_numbers x ≡ true → (out : List ℕ) (n : EscapeStep) → IsOpen homes.Text n → Viable (Left x (after_escape k out n)) []
+can_after x k has out (Within at) e = can_digits x k has at out e
+can_after x k has out (Whole c) e = can_in x k (out ++ c ∷ [])
 
 can_one : (x : Style) (q : Quote) (out : List ℕ) → Viable (Left x (OneQuote q out)) []
 can_one x q out = record { more = mark_of q ∷ mark_of q ∷ []; scalars = (quote_scalars q).1; value = out ++ []; whole = record { own = []; is = tail_end x (Long q); stands = refl } }
@@ -473,15 +416,23 @@ live_inside x k out c =
     let second = live_if x (may_stand x k c) (Some (In k (out ++ c ∷ []))) None (λ b. live_some x (In k (out ++ c ∷ [])) (can_in x k (out ++ c ∷ []))) (live_none x) in
     live_if x (c == 92) (Some (Backslash k out)) (cond (may_stand x k c) (Some (In k (out ++ c ∷ []))) None) (λ b. live_some x (Backslash k out) (can_backslash x k out)) second
 
-live_digit : (x : Style) (k : Quoting) → has_numbers x ≡ true → (left m : ℕ) (out : List ℕ) → Live x (after_digit left k m out)
-live_digit x k has zero m out = live_if x _ _ _ (λ b. live_some x _ (can_in x k _)) (live_none x)
-live_digit x k has (suc left) m out = live_if x _ _ _ (λ b. live_some x _ (can_digits x k has left m out b)) (live_none x)
+live_numbered : (x : Style) (k : Quoting) (out : List ℕ) (c : ℕ) → has_numbers x ≡ true → Live x (option_map (λ at. Escape k at out) (escapes.begin c))
+live_numbered x k out c has = record {
+  all = λ n e.
+      let m = mapped (λ at. Escape k at out) (escapes.begin c) n e in
+      subst (λ (n : StringAt). Viable (Left x n) []) m.2 (can_digits x k has m.0 out (begin_open homes.Text m.0 c m.1));
+}
 
 live_backslash : (x : Style) (k : Quoting) (out : List ℕ) (c : ℕ) (o : Option ℕ) → Live x (after_backslash x k out c o)
 live_backslash x k out c (Some d) = live_some x (In k (out ++ d ∷ [])) (can_in x k (out ++ d ∷ []))
-live_backslash x k out c None =
-    let second = live_if x (c == 85 && has_numbers x) (Some (Digits k 7 0 out)) None (λ b. live_some x (Digits k 7 0 out) (can_digits x k (both_parts (c == 85) _ b).1 7 0 out refl)) (live_none x) in
-    live_if x (c == 117 && has_numbers x) (Some (Digits k 3 0 out)) (cond (c == 85 && has_numbers x) (Some (Digits k 7 0 out)) None) (λ b. live_some x (Digits k 3 0 out) (can_digits x k (both_parts (c == 117) _ b).1 3 0 out refl)) second
+live_backslash x k out c None = live_if x (has_numbers x) (option_map (λ at. Escape k at out) (escapes.begin c)) None (λ b. live_numbered x k out c b) (live_none x)
+
+live_escape : (x : Style) (k : Quoting) → has_numbers x ≡ true → (at : EscapeAt) (out : List ℕ) (c : ℕ) → Live x (step x (Escape k at out) c)
+live_escape x k has at out c = record {
+  all = λ n e.
+      let m = mapped (after_escape k out) (escapes.step homes.Text at c) n e in
+      subst (λ (n : StringAt). Viable (Left x n) []) m.2 (can_after x k has out m.0 (step_open homes.Text at c m.0 m.1));
+}
 
 live : (x : Style) (s : StringAt) (c : ℕ) → Viable (Left x s) [] → Live x (step x s c)
 live x Start c a =
@@ -492,7 +443,7 @@ live x (Empty q) c a = live_if x (c == mark_of q) (Some (In (Long q) [])) None (
 live x (In (Short q) out) c a = live_if x (c == mark_of q) (Some (Done out)) (inside x (Short q) out c) (λ b. live_some x (Done out) (can_done x out)) (live_inside x (Short q) out c)
 live x (In (Long q) out) c a = live_if x (c == mark_of q) (Some (OneQuote q out)) (inside x (Long q) out c) (λ b. live_some x (OneQuote q out) (can_one x q out)) (live_inside x (Long q) out c)
 live x (Backslash k out) c a = live_backslash x k out c (named c)
-live x (Digits k left m out) c a = live_if x (nat_lt (digit_value c) 16) (after_digit left k (m * 16 + digit_value c) out) None (λ b. live_digit x k a.whole.0 left (m * 16 + digit_value c) out) (live_none x)
+live x (Escape k at out) c a = live_escape x k a.whole.0 at out c
 live x (OneQuote q out) c a = live_if x (c == mark_of q) (Some (TwoQuotes q out)) (inside x (Long q) (out ++ mark_of q ∷ []) c) (λ b. live_some x (TwoQuotes q out) (can_two x q out)) (live_inside x (Long q) (out ++ mark_of q ∷ []) c)
 live x (TwoQuotes q out) c a = live_if x (c == mark_of q) (Some (Done out)) (inside x (Long q) (out ++ mark_of q ∷ mark_of q ∷ []) c) (λ b. live_some x (Done out) (can_done x out)) (live_inside x (Long q) (out ++ mark_of q ∷ mark_of q ∷ []) c)
 live x (Done out) c a = live_none x
@@ -559,10 +510,6 @@ two_left x q w h =
         let f = heads (mark_of q) (mark_of q) [] (mark_of q ∷ replicate n (mark_of q) ++ own) (heads (mark_of q) (mark_of q) (mark_of q ∷ []) (mark_of q ∷ mark_of q ∷ replicate n (mark_of q) ++ own) e).1 in
         let g = f.1 in let no : ⊥ = cc in absurd no
 
-no_digits : (left : ℕ) (ds tail : List ℕ) → length ds ≡ suc left → ◌≡◌ {A = List ℕ} [] (ds ++ tail) → ⊥
-no_digits left [] tail full e = omega (arith, full)
-no_digits left (d ∷ ds) tail full e = cc
-
 no_token : (k : Quoting) (tail : List ℕ) → ◌≡◌ {A = List ℕ} [] (around k ++ tail) → ⊥
 no_token (Short q) tail e = cc
 no_token (Long q) tail e = cc
@@ -577,7 +524,7 @@ ends x (Empty q) v h =
     (λ (h : Beyond x q (mark_of q ∷ []) [] v). let e = h.spelled in let no : ⊥ = cc in absurd no) h
 ends x (In k out) v h = nothing_left x k h.own h.is
 ends x (Backslash k out) v h = backslash_left x k h.own h.is
-ends x (Digits k left n out) v (has, h) = absurd (no_digits left h.is.digits h.is.tail h.is.full h.is.spelled)
+ends x (Escape k at out) v (has, h) = absurd (no_digits homes.Text (StringTail x k) at h.own h.is)
 ends x (OneQuote q out) v h = one_left x q h.own h.is
 ends x (TwoQuotes q out) v h = two_left x q h.own h.is
 ends x (Done out) v h = ap Some (sym h.1)
@@ -588,7 +535,7 @@ may_end x (Opened q) v e = none_some e
 may_end x (Empty q) v e = inl (refl, sym (some_same e))
 may_end x (In k out) v e = none_some e
 may_end x (Backslash k out) v e = none_some e
-may_end x (Digits k left n out) v e = none_some e
+may_end x (Escape k at out) v e = none_some e
 may_end x (OneQuote q out) v e = none_some e
 may_end x (TwoQuotes q out) v e = none_some e
 may_end x (Done out) v e = (refl, sym (some_same e))

@@ -5,10 +5,10 @@ use Rattle.bye_lex.specs.Escapes.{Piece, IsRaw, IsEscape}
 use Rattle.bye_lex.specs.Iris.{has_numbers}
 use Rattle.bye_lex.specs.Strings.{mark_of, around, may_stand, IsNamed, IsStringPiece, Group, may_precede, quote_of, IsGroup, group_text, group_value, StringTail}
 use Rattle.bye_lex.specs.declared.style.Style.{Style}
-use Rattle.bye_lex.specs.declared.string.Quote.{Quote}
-use Rattle.bye_lex.specs.declared.string.Quote.TheVariants.{Double, Single}
-use Rattle.bye_lex.specs.declared.string.Quoting.{Quoting}
-use Rattle.bye_lex.specs.declared.string.Quoting.TheVariants.{Short, Long}
+use Rattle.bye_lex.specs.declared.quoting.Quote.{Quote}
+use Rattle.bye_lex.specs.declared.quoting.Quote.TheVariants.{Double, Single}
+use Rattle.bye_lex.specs.declared.quoting.Quoting.{Quoting}
+use Rattle.bye_lex.specs.declared.quoting.Quoting.TheVariants.{Short, Long}
 use Rattle.bye_lex.proofs.Branches.{heads, never, same_eqb}
 
 -- nothing but what closes the string

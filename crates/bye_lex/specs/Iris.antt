@@ -14,39 +14,39 @@ has_numbers Tsv = true
 has_numbers Query = false
 
 -- a character of an IRI: raw, or, where there are escapes, by one
-pub record IsIriPiece (escapes : Bool) (p : Piece) : Type 0 where
-  pub spelled : IsRaw p ⊎ ((escapes ≡ true) × (IsEscape p 117 4 ⊎ IsEscape p 85 8))
+pub record IsIriPiece (style : Style) (p : Piece) : Type 0 where
+  pub spelled : IsRaw p ⊎ ((has_numbers style ≡ true) × (IsEscape p 117 4 ⊎ IsEscape p 85 8))
   pub allowed : is_iri_char p.char ≡ true
 
 -- characters, and the closing bracket
-pub record IriTail (escapes : Bool) (text value : List ℕ) : Type 0 where
+pub record IriTail (style : Style) (text value : List ℕ) : Type 0 where
   pub pieces : List Piece
-  pub each : AllByRecursion (IsIriPiece escapes) pieces
+  pub each : AllByRecursion (IsIriPiece style) pieces
   pub spelled : text ≡ flat_map (λ p. p.text) pieces ++ 62 ∷ []
   pub stands : value ≡ map (λ p. p.char) pieces
 
 -- the rest of a scheme, its colon, and the tail
-pub record IriScheme (escapes : Bool) (text value : List ℕ) : Type 0 where
+pub record IriScheme (style : Style) (text value : List ℕ) : Type 0 where
   pub scheme : List ℕ
   pub each : AllByRecursion (λ c. is_scheme_char c ≡ true) scheme
   pub tail : List ℕ
   pub tail_value : List ℕ
-  pub after : IriTail escapes tail tail_value
+  pub after : IriTail style tail tail_value
   pub spelled : text ≡ scheme ++ 58 ∷ tail
   pub stands : value ≡ scheme ++ 58 ∷ tail_value
 
 -- the letter of a scheme, and what follows it
-pub record IriLetter (escapes : Bool) (text value : List ℕ) : Type 0 where
+pub record IriLetter (style : Style) (text value : List ℕ) : Type 0 where
   pub first : ℕ
   pub letter : is_letter first ≡ true
   pub rest : List ℕ
   pub rest_value : List ℕ
-  pub after : IriScheme escapes rest rest_value
+  pub after : IriScheme style rest rest_value
   pub spelled : text ≡ first ∷ rest
   pub stands : value ≡ first ∷ rest_value
 
 -- the text is an absolute IRI in its brackets, and stands for the value; its scheme is raw
-pub record IriToken (escapes : Bool) (text value : List ℕ) : Type 0 where
+pub record IriToken (style : Style) (text value : List ℕ) : Type 0 where
   pub rest : List ℕ
-  pub after : IriLetter escapes rest value
+  pub after : IriLetter style rest value
   pub spelled : text ≡ 60 ∷ rest

@@ -20,7 +20,7 @@ OneAnswer {V} L = (text : List ℕ) (from : ℕ) (answer other : Result (V × �
 
 -- the reader of each token has one answer
 pub record ReadersAnswerOnce : Type 0 where
-  pub iri : (escapes : Bool) → OneAnswer (IriToken escapes)
+  pub iri : (style : Style) → OneAnswer (IriToken style)
   pub string : (style : Style) → OneAnswer (StringToken style)
   pub label : OneAnswer LabelToken
   pub tag : OneAnswer TagToken

@@ -6,7 +6,7 @@ use Rattle.bye_terms.specs.Names.{is_iri, is_label, is_tag}
 use Rattle.bye_terms.specs.declared.term.Term.{Term}
 use Rattle.bye_terms.specs.declared.term.Term.TheVariants.{Iri, Blank, Lit}
 use Rattle.bye_lex.specs.Languages.{Token}
-use Rattle.bye_lex.specs.Iris.{has_numbers, IriToken}
+use Rattle.bye_lex.specs.Iris.{IriToken}
 use Rattle.bye_lex.specs.Marks.{LabelToken, TagToken}
 use Rattle.bye_lex.specs.Strings.{StringToken}
 use Rattle.bye_lex.specs.Written.{escaped_in, written}
@@ -20,7 +20,7 @@ NotLonger {V} L text rest = (more after : List ℕ) (other : V) → rest ≡ mor
 pub record DatatypeText (style : Style) (suffix rest datatype : List ℕ) : Type 0 where
   pub iri : List ℕ
   pub parts : suffix ≡ 94 ∷ 94 ∷ iri
-  pub is : Token (IriToken (has_numbers style)) iri rest datatype
+  pub is : Token (IriToken style) iri rest datatype
 
 abbrev pub SuffixText : Style → List ℕ → List ℕ → Option (List ℕ) → List ℕ → Type 0
 SuffixText style suffix rest (Some tag) datatype = Token TagToken suffix rest tag × (datatype ≡ lang_string)
@@ -36,7 +36,7 @@ pub record LiteralText (style : Style) (text rest : List ℕ) (literal : Literal
 
 -- the text is the tokens of the term, where the rest follows
 abbrev pub TermText : Style → List ℕ → List ℕ → Term → Type 0
-TermText style text rest (Iri iri) = Token (IriToken (has_numbers style)) text rest iri
+TermText style text rest (Iri iri) = Token (IriToken style) text rest iri
 TermText style text rest (Blank label) = Token LabelToken text rest label
 TermText style text rest (Lit literal) = LiteralText style text rest literal
 

@@ -42,13 +42,3 @@ Gives (Err (NoToken place)) (Found v p) = ⊥
 Gives (Err (NoToken place)) End = ⊥
 Gives (Err Cut) (Found v p) = ⊥
 Gives (Err Cut) (Fault p) = ⊥
-
--- the same of a machine that gives no value
-abbrev pub GivesEnd : Result ℕ LexErr → Scanned (Unit {0}) → Type 0
-GivesEnd (Ok end) s = Gives (Ok (tt, end)) s
-GivesEnd (Err fault) s = Gives (Err fault) s
-
--- a place without a value
-abbrev pub with_unit : Option ℕ → Option (Unit {0} × ℕ)
-with_unit None = None
-with_unit (Some end) = Some (tt, end)

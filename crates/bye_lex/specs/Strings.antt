@@ -7,10 +7,10 @@ use Rattle.bye_lex.specs.Escapes.{Piece, IsRaw, IsEscape}
 use Rattle.bye_lex.specs.Iris.{has_numbers}
 use Rattle.bye_lex.specs.declared.style.Style.{Style}
 use Rattle.bye_lex.specs.declared.style.Style.TheVariants.{Triples, Tsv, Query}
-use Rattle.bye_lex.specs.declared.string.Quote.{Quote}
-use Rattle.bye_lex.specs.declared.string.Quote.TheVariants.{Double, Single}
-use Rattle.bye_lex.specs.declared.string.Quoting.{Quoting}
-use Rattle.bye_lex.specs.declared.string.Quoting.TheVariants.{Short, Long}
+use Rattle.bye_lex.specs.declared.quoting.Quote.{Quote}
+use Rattle.bye_lex.specs.declared.quoting.Quote.TheVariants.{Double, Single}
+use Rattle.bye_lex.specs.declared.quoting.Quoting.{Quoting}
+use Rattle.bye_lex.specs.declared.quoting.Quoting.TheVariants.{Short, Long}
 
 abbrev pub mark_of : Quote → ℕ
 mark_of Double = 34

@@ -2,23 +2,40 @@
 //! variables; and the written spelling of terms.
 #![tactic(auto)]
 
-mod document;
+mod dots;
 mod escape;
 mod fault;
 mod iri;
+mod label;
 mod laws;
-mod mark;
+mod machine;
+mod name;
+mod place;
+mod quoting;
+mod scheme;
+mod stepped;
 mod string;
 mod style;
+mod subtagged;
+mod tag;
 mod utf8;
 mod write;
 
+pub use dots::Dots;
+pub use escape::{EscapeAt, EscapeStep, Home};
 pub use fault::LexErr;
-pub use iri::{IriAt, iri_at, step as iri_step};
+pub use iri::{IriAt, iri_at};
+pub use label::{LabelAt, label_at};
 pub use laws::{one_answer, one_term, reads_back};
-pub use mark::{MarkAt, is_whole, label_at, name_at, step as mark_step, tag_at};
-pub use string::{Quote, Quoting, StringAt, step as string_step, string_at};
+pub use machine::{Machine, read_token};
+pub use name::{NameAt, name_at};
+pub use quoting::{Quote, Quoting};
+pub use scheme::Scheme;
+pub use stepped::Stepped;
+pub use string::{StringAt, string_at};
 pub use style::Style;
+pub use subtagged::Subtagged;
+pub use tag::{TagAt, tag_at};
 pub use utf8::{Decoded, decode, may_go_on_in_label};
 pub use write::{push_term, written_as_ordered};
 

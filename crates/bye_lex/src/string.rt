@@ -1,37 +1,23 @@
 ghost use Rattle.bye_lex.specs.Answers.{IsBorder, Reads, text_at};
-ghost use Rattle.bye_lex.specs.Scanning.{Gives, scan};
+ghost use Rattle.bye_lex.specs.Machines.{stepped};
 ghost use Rattle.bye_lex.specs.Strings as strings;
 ghost use Rattle.bye_lex.specs.Strings.{StringToken};
 ghost use Rattle.bye_lex.specs.StringSteps as spec;
-ghost use Rattle.bye_lex.specs.declared.string.StringAt.TheVariants.{Start as spec_start, Opened as spec_opened, Empty as spec_empty, In as spec_in, Backslash as spec_backslash, Digits as spec_digits, OneQuote as spec_one, TwoQuotes as spec_two};
-ghost use Rattle.bye_lex.specs.declared.string.Quoting.TheVariants.{Short as spec_short, Long as spec_long};
-ghost use Rattle.std.specs.Prelude.{◌≡◌, ◌++◌, ◌∷◌, [], ℕ, None, Ok, Err, IfOk, MatchOption, ◌≤◌, length};
-ghost use Rattle.std.specs.Str.{encode_utf8_all, IsUtf8};
+ghost use Rattle.bye_lex.specs.declared.string.StringAt.TheVariants.{Start as spec_start, Opened as spec_opened, Empty as spec_empty, In as spec_in, Backslash as spec_backslash, Escape as spec_escape, OneQuote as spec_one, TwoQuotes as spec_two};
+ghost use Rattle.std.specs.Prelude.{◌≡◌, ◌++◌, ◌∷◌, [], Some, true, IfOk};
+ghost use Rattle.std.specs.Str.{IsUtf8};
 
-use crate::document::{cursor_at, with};
-use crate::escape::{hex_value, is_open};
+use crate::escape::{EscapeAt, EscapeStep, Home};
 use crate::fault::LexErr;
+use crate::machine::{Machine, read_token};
+use crate::place::cursor_at;
+use crate::quoting::{Quote, Quoting};
+use crate::stepped::Stepped;
 use crate::style::Style;
-use bye_terms::{Cursor, Memory, Text};
+use bye_terms::{Memory, Text};
 use std::alloc::Global;
 
-/// The quote of a string.
-#[derive(Debug, Copy, Clone)]
-pub enum Quote {
-    /// `"`
-    Double,
-    /// `'`
-    Single,
-}
-
-/// What is around a string: its quote, or that three times.
-#[derive(Debug, Copy, Clone)]
-pub enum Quoting {
-    Short(Quote),
-    Long(Quote),
-}
-
-/// How far a string was read.
+/// How far a string was read, with what was read of it.
 #[derive(Debug, Drop)]
 pub enum StringAt {
     Start,
@@ -41,39 +27,11 @@ pub enum StringAt {
     Empty(Quote),
     In(Quoting, Text),
     Backslash(Quoting, Text),
-    /// In an escape: so many digits follow the next one, and the number so far.
-    Digits(Quoting, u8, u32, Text),
+    Escape(Quoting, EscapeAt, Text),
     /// In a long string after a quote that may close it.
     OneQuote(Quote, Text),
     TwoQuotes(Quote, Text),
     Done(Text),
-}
-
-impl Quote {
-    fn mark(self) -> char
-        ensures { result ≡ strings.mark_of self }
-    {
-        match self {
-            Quote::Double => '"',
-            Quote::Single => '\'',
-        }
-    }
-}
-
-impl Quoting {
-    /// Whether the character stands raw in such a string.
-    fn may_hold(self, c: char, style: Style) -> bool
-        ensures { result ≡ strings.may_stand style self c }
-    {
-        match self {
-            Quoting::Short(quote) => {
-                c != quote.mark()
-                    && !matches!(c, '\\' | '\n' | '\r')
-                    && !(style.is_tsv() && c == '\t')
-            }
-            Quoting::Long(quote) => c != quote.mark() && c != '\\',
-        }
-    }
 }
 
 /// The character that stands for itself after a backslash, or is named there (ECHAR).
@@ -100,26 +58,25 @@ fn opened(alloc: Global, quote: Quote, style: Style) -> StringAt
     }
 }
 
-fn start(alloc: Global, c: char, style: Style) -> Option<StringAt>
-    ensures { result ≡ spec.step style spec_start c }
+fn start(alloc: Global, c: char, style: Style) -> Stepped<StringAt>
+    ensures { result ≡ stepped spec_start (spec.step style spec_start c) }
 {
     match (c, style) {
-        ('"', _) => Some(opened(alloc, Quote::Double, style)),
-        ('\'', Style::Tsv | Style::Query) => Some(opened(alloc, Quote::Single, style)),
-        _ => None,
+        ('"', _) => Stepped::On(opened(alloc, Quote::Double, style)),
+        ('\'', Style::Tsv | Style::Query) => Stepped::On(opened(alloc, Quote::Single, style)),
+        _ => Stepped::Off(StringAt::Start),
     }
 }
 
-fn inside(quoting: Quoting, text: Text, c: char, style: Style) -> Result<Option<StringAt>, Memory>
-    ensures { IfOk result (λ o. o ≡ spec.inside style quoting text c) }
+/// After a character that stands raw or begins an escape.
+fn inside(quoting: Quoting, text: Text, c: char, style: Style) -> Result<StringAt, Memory>
+    requires { spec.takes style quoting c ≡ true }
+    ensures { IfOk result (λ at. spec.inside style quoting text c ≡ Some at) }
 {
     if c == '\\' {
-        return Ok(Some(StringAt::Backslash(quoting, text)));
+        return Ok(StringAt::Backslash(quoting, text));
     }
-    if quoting.may_hold(c, style) {
-        return Ok(Some(StringAt::In(quoting, with(text, c)?)));
-    }
-    Ok(None)
+    Ok(StringAt::In(quoting, text.with_char(c)?))
 }
 
 fn after_quote(
@@ -127,22 +84,26 @@ fn after_quote(
     quote: Quote,
     c: char,
     style: Style,
-) -> Result<Option<StringAt>, Memory>
-    ensures { IfOk result (λ o. o ≡ spec.step style (spec_opened quote) c) }
+) -> Result<Stepped<StringAt>, Memory>
+    ensures { IfOk result (λ s. s ≡ stepped (spec_opened quote) (spec.step style (spec_opened quote) c)) }
 {
     if c == quote.mark() {
-        return Ok(Some(StringAt::Empty(quote)));
+        return Ok(Stepped::On(StringAt::Empty(quote)));
     }
-    inside(Quoting::Short(quote), Text::new(alloc), c, style)
+    let quoting = Quoting::Short(quote);
+    if !quoting.takes(c, style) {
+        return Ok(Stepped::Off(StringAt::Opened(quote)));
+    }
+    Ok(Stepped::On(inside(quoting, Text::new(alloc), c, style)?))
 }
 
-fn after_two(alloc: Global, quote: Quote, c: char, style: Style) -> Option<StringAt>
-    ensures { result ≡ spec.step style (spec_empty quote) c }
+fn after_two(alloc: Global, quote: Quote, c: char, style: Style) -> Stepped<StringAt>
+    ensures { result ≡ stepped (spec_empty quote) (spec.step style (spec_empty quote) c) }
 {
     if c == quote.mark() {
-        return Some(StringAt::In(Quoting::Long(quote), Text::new(alloc)));
+        return Stepped::On(StringAt::In(Quoting::Long(quote), Text::new(alloc)));
     }
-    None
+    Stepped::Off(StringAt::Empty(quote))
 }
 
 fn in_string(
@@ -150,13 +111,16 @@ fn in_string(
     text: Text,
     c: char,
     style: Style,
-) -> Result<Option<StringAt>, Memory>
-    ensures { IfOk result (λ o. o ≡ spec.step style (spec_in quoting text) c) }
+) -> Result<Stepped<StringAt>, Memory>
+    ensures { IfOk result (λ s. s ≡ stepped (spec_in quoting text) (spec.step style (spec_in quoting text) c)) }
 {
     match quoting {
-        Quoting::Short(quote) if c == quote.mark() => Ok(Some(StringAt::Done(text))),
-        Quoting::Long(quote) if c == quote.mark() => Ok(Some(StringAt::OneQuote(quote, text))),
-        _ => inside(quoting, text, c, style),
+        Quoting::Short(quote) if c == quote.mark() => Ok(Stepped::On(StringAt::Done(text))),
+        Quoting::Long(quote) if c == quote.mark() => {
+            Ok(Stepped::On(StringAt::OneQuote(quote, text)))
+        }
+        _ if !quoting.takes(c, style) => Ok(Stepped::Off(StringAt::In(quoting, text))),
+        _ => Ok(Stepped::On(inside(quoting, text, c, style)?)),
     }
 }
 
@@ -165,138 +129,122 @@ fn after_backslash(
     text: Text,
     c: char,
     style: Style,
-) -> Result<Option<StringAt>, Memory>
-    ensures { IfOk result (λ o. o ≡ spec.step style (spec_backslash quoting text) c) }
+) -> Result<Stepped<StringAt>, Memory>
+    ensures { IfOk result (λ s. s ≡ stepped (spec_backslash quoting text) (spec.step style (spec_backslash quoting text) c)) }
 {
     if let Some(c) = named(c) {
-        return Ok(Some(StringAt::In(quoting, with(text, c)?)));
+        return Ok(Stepped::On(StringAt::In(quoting, text.with_char(c)?)));
     }
-    if c == 'u' && style.has_numbers() {
-        return Ok(Some(StringAt::Digits(quoting, 3, 0, text)));
+    if !style.has_numbers() {
+        return Ok(Stepped::Off(StringAt::Backslash(quoting, text)));
     }
-    if c == 'U' && style.has_numbers() {
-        return Ok(Some(StringAt::Digits(quoting, 7, 0, text)));
-    }
-    Ok(None)
-}
-
-fn after_digit(
-    quoting: Quoting,
-    left: u8,
-    number: u32,
-    text: Text,
-) -> Result<Option<StringAt>, Memory>
-    ensures { IfOk result (λ o. o ≡ spec.after_digit left quoting number text) }
-{
-    if !is_open(left, number) {
-        return Ok(None);
-    }
-    if left > 0 {
-        return Ok(Some(StringAt::Digits(quoting, left - 1, number, text)));
-    }
-    match char::from_u32(number) {
-        Some(c) => Ok(Some(StringAt::In(quoting, with(text, c)?))),
-        None => Ok(None),
+    match EscapeAt::begin(c) {
+        Some(at) => Ok(Stepped::On(StringAt::Escape(quoting, at, text))),
+        None => Ok(Stepped::Off(StringAt::Backslash(quoting, text))),
     }
 }
 
-fn in_digits(
+fn in_escape(
     quoting: Quoting,
-    left: u8,
-    number: u32,
+    at: EscapeAt,
     text: Text,
     c: char,
     style: Style,
-) -> Result<Option<StringAt>, Memory>
-    ensures { IfOk result (λ o. o ≡ spec.step style (spec_digits quoting left number text) c) }
+) -> Result<Stepped<StringAt>, Memory>
+    ensures { IfOk result (λ s. s ≡ stepped (spec_escape quoting at text) (spec.step style (spec_escape quoting at text) c)) }
 {
-    let Some(digit) = hex_value(c) else {
-        return Ok(None);
-    };
-    if number >= 0x11_0000 {
-        return Ok(None);
+    match at.step(c, Home::Text) {
+        Some(EscapeStep::Within(at)) => Ok(Stepped::On(StringAt::Escape(quoting, at, text))),
+        Some(EscapeStep::Whole(c)) => Ok(Stepped::On(StringAt::In(quoting, text.with_char(c)?))),
+        None => Ok(Stepped::Off(StringAt::Escape(quoting, at, text))),
     }
-    after_digit(quoting, left, number * 16 + u32::from(digit), text)
 }
 
-fn one_quote(quote: Quote, text: Text, c: char, style: Style) -> Result<Option<StringAt>, Memory>
-    ensures { IfOk result (λ o. o ≡ spec.step style (spec_one quote text) c) }
+fn one_quote(quote: Quote, text: Text, c: char, style: Style) -> Result<Stepped<StringAt>, Memory>
+    ensures { IfOk result (λ s. s ≡ stepped (spec_one quote text) (spec.step style (spec_one quote text) c)) }
 {
     if c == quote.mark() {
-        return Ok(Some(StringAt::TwoQuotes(quote, text)));
+        return Ok(Stepped::On(StringAt::TwoQuotes(quote, text)));
     }
-    inside(Quoting::Long(quote), with(text, quote.mark())?, c, style)
+    let quoting = Quoting::Long(quote);
+    if !quoting.takes(c, style) {
+        return Ok(Stepped::Off(StringAt::OneQuote(quote, text)));
+    }
+    let text = text.with_char(quote.mark())?;
+    Ok(Stepped::On(inside(quoting, text, c, style)?))
 }
 
-fn two_quotes(quote: Quote, text: Text, c: char, style: Style) -> Result<Option<StringAt>, Memory>
-    ensures { IfOk result (λ o. o ≡ spec.step style (spec_two quote text) c) }
+fn two_quotes(quote: Quote, text: Text, c: char, style: Style) -> Result<Stepped<StringAt>, Memory>
+    ensures { IfOk result (λ s. s ≡ stepped (spec_two quote text) (spec.step style (spec_two quote text) c)) }
 {
     if c == quote.mark() {
-        return Ok(Some(StringAt::Done(text)));
+        return Ok(Stepped::On(StringAt::Done(text)));
     }
-    let text = with(with(text, quote.mark())?, quote.mark())?;
-    inside(Quoting::Long(quote), text, c, style)
+    let quoting = Quoting::Long(quote);
+    if !quoting.takes(c, style) {
+        return Ok(Stepped::Off(StringAt::TwoQuotes(quote, text)));
+    }
+    let text = text.with_char(quote.mark())?.with_char(quote.mark())?;
+    Ok(Stepped::On(inside(quoting, text, c, style)?))
 }
 
-/// The state after one more character, and None where no continuation is a string.
-pub fn step(alloc: Global, at: StringAt, c: char, style: Style) -> Result<Option<StringAt>, Memory>
-    ensures { IfOk result (λ o. o ≡ spec.step style at c) }
+/// The empty string, which two quotes are before a third makes them the beginning of a long one.
+fn empty_before(alloc: Global, quoting: Quoting) -> Option<Text>
+    ensures { result ≡ spec.empty_before quoting }
 {
-    match at {
-        StringAt::Start => Ok(start(alloc, c, style)),
-        StringAt::Opened(quote) => after_quote(alloc, quote, c, style),
-        StringAt::Empty(quote) => Ok(after_two(alloc, quote, c, style)),
-        StringAt::In(quoting, text) => in_string(quoting, text, c, style),
-        StringAt::Backslash(quoting, text) => after_backslash(quoting, text, c, style),
-        StringAt::Digits(quoting, left, number, text) => in_digits(
-            quoting, left, number, text, c, style,
-        ),
-        StringAt::OneQuote(quote, text) => one_quote(quote, text, c, style),
-        StringAt::TwoQuotes(quote, text) => two_quotes(quote, text, c, style),
-        StringAt::Done(_) => Ok(None),
+    match quoting {
+        Quoting::Short(_) => None,
+        Quoting::Long(_) => Some(Text::new(alloc)),
     }
 }
 
-/// The empty string, where one was passed, or else the fault.
-fn settle(alloc: Global, empty: Option<usize>, other: LexErr) -> Result<(Text, usize), LexErr>
-    ensures { MatchOption empty (result ≡ Err other) (λ e. result ≡ Ok ([], e)) }
-{
-    match empty {
-        Some(end) => Ok((Text::new(alloc), end)),
-        None => Err(other),
-    }
-}
+impl Machine for StringAt {
+    ghost use Rattle.bye_lex.specs.StringSteps as spec;
 
-fn string_in(
-    alloc: Global,
-    mut rest: Cursor<'_>,
-    total: usize,
-    style: Style,
-) -> Result<(Text, usize), LexErr>
-    requires { length (encode_utf8_all rest) ≤ total }
-    ensures { Gives result (scan (spec.step style) spec.final total spec_start None rest.entry) }
-{
-    let mut at = StringAt::Start;
-    let mut empty = None;
-    loop {
-        let here = total - rest.len();
-        let Some(c) = rest.next() else {
-            return settle(alloc, empty, LexErr::Cut);
-        };
-        match step(alloc, at, c, style)? {
-            None => return settle(alloc, empty, LexErr::NoToken(here)),
-            Some(StringAt::Done(text)) => return Ok((text, total - rest.len())),
-            Some(StringAt::Empty(quote)) => {
-                at = StringAt::Empty(quote);
-                empty = Some(total - rest.len());
+    type Token = Text;
+
+    ghost next = { spec.step };
+
+    ghost whole = { spec.final };
+
+    ghost longest = { spec.longest };
+
+    #[tactic(auto, using(crate::proofs::Growing::string_grown))]
+    fn step(self, alloc: Global, c: char, style: Style) -> Result<Stepped<StringAt>, Memory> {
+        match self {
+            StringAt::Start => Ok(start(alloc, c, style)),
+            StringAt::Opened(quote) => after_quote(alloc, quote, c, style),
+            StringAt::Empty(quote) => Ok(after_two(alloc, quote, c, style)),
+            StringAt::In(quoting, text) => in_string(quoting, text, c, style),
+            StringAt::Backslash(quoting, text) => after_backslash(quoting, text, c, style),
+            StringAt::Escape(quoting, at, text) => in_escape(quoting, at, text, c, style),
+            StringAt::OneQuote(quote, text) => one_quote(quote, text, c, style),
+            StringAt::TwoQuotes(quote, text) => two_quotes(quote, text, c, style),
+            StringAt::Done(text) => Ok(Stepped::Off(StringAt::Done(text))),
+        }
+    }
+
+    fn is_whole(&self) -> bool {
+        matches!(self, StringAt::Empty(_) | StringAt::Done(_))
+    }
+
+    fn into_longest(self, alloc: Global) -> Option<Text> {
+        match self {
+            StringAt::Start | StringAt::Opened(_) => None,
+            StringAt::Empty(_) | StringAt::OneQuote(_, _) | StringAt::TwoQuotes(_, _) => {
+                Some(Text::new(alloc))
             }
-            Some(next) => at = next,
+            StringAt::In(quoting, _) => empty_before(alloc, quoting),
+            StringAt::Backslash(quoting, _) => empty_before(alloc, quoting),
+            StringAt::Escape(quoting, _, _) => empty_before(alloc, quoting),
+            StringAt::Done(text) => Some(text),
         }
     }
 }
 
 /// Reads the string with its quotes at the place `from`, in bytes (RDF 1.1 N-Triples, section 7, STRING_LITERAL_QUOTE;
 /// SPARQL 1.1 Query, section 19.8). It gives what the string stands for and the place after it.
+#[tactic(auto, using(crate::proofs::StringReads::string_reads))]
 pub fn string_at(
     alloc: Global,
     bytes: &[u8],
@@ -307,5 +255,11 @@ pub fn string_at(
     requires border { IsBorder bytes.now from }
     ensures { Reads (StringToken style) (text_at bytes.now from) from result }
 {
-    string_in(alloc, cursor_at(bytes, from), bytes.len(), style)
+    read_token(
+        alloc,
+        StringAt::Start,
+        cursor_at(bytes, from),
+        bytes.len(),
+        style,
+    )
 }

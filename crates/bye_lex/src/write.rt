@@ -10,6 +10,7 @@ ghost use Rattle.bye_lex.specs.Written.{escaped_in, written_literal, written, Wr
 
 use crate::style::Style;
 use bye_terms::{Cursor, Iri, Label, Literal, Memory, Tag, Term, Text};
+use std::alloc::Global;
 
 fn push_str(out: &mut Vec<u8>, piece: &str) -> Result<(), Memory>
     ensures ok { OnOk result (out.new.items ≡ out.old.items ++ piece.now) }
@@ -133,7 +134,7 @@ fn push_spelling(out: &mut Vec<u8>, t: &Term, style: Style) -> Result<(), Memory
 
 /// Puts the written spelling of a term at the end (RDF 1.1 N-Triples, section 4; SPARQL 1.1 Query Results CSV and TSV
 /// Formats, section 4). Where memory is refused, nothing is put there.
-pub fn push_term(out: &mut Vec<u8>, t: &Term, style: Style) -> Result<(), Memory>
+pub fn push_term(_alloc: Global, out: &mut Vec<u8>, t: &Term, style: Style) -> Result<(), Memory>
     ensures ok { OnOk result (out.new.items ≡ out.old.items ++ encode_utf8_all (written style t.now)) }
     ensures err { OnErr result (out.new.items ≡ out.old.items) }
 {

@@ -6,21 +6,21 @@ use Rattle.std.proofs.lemmas.List.{append-nil}
 use Rattle.std.proofs.lemmas.Str.{encodes-append}
 use Rattle.bye_terms.specs.Terms.{Statement}
 use Rattle.bye_terms.specs.declared.term.Term.{Term}
-use Rattle.bye_lex.specs.MarkSteps as mark
-use Rattle.bye_lex.specs.declared.mark.MarkAt.TheVariants as marks
+use Rattle.bye_lex.specs.LabelSteps as label_steps
+use Rattle.bye_lex.specs.declared.label.LabelAt.TheVariants as labels
 use Rattle.bye_lex.proofs.Branches.{some_same, none_some, scalars_join}
 use Rattle.bye_lex.proofs.Utf8Laws.{prefix_free}
 use Rattle.bye_ntriples.specs.Answers.{triple_limit, UpToDot, MayGoOn, HasPassed}
 use Rattle.bye_ntriples.specs.DocSteps.{DocAt, start, line_ended, line_moved, step, held, pending, count}
 use Rattle.bye_ntriples.specs.Lines.{is_space, is_line_end}
 use Rattle.bye_ntriples.specs.LineSteps as line
-use Rattle.bye_ntriples.specs.Running.{run}
+use Rattle.bye_lex.specs.Running.{run}
 use Rattle.bye_ntriples.specs.declared.line.LineAt.{LineAt}
 use Rattle.bye_ntriples.specs.declared.line.LineAt.TheVariants.{Begin, Subject, AfterSubject, Predicate, AfterPredicate, Object, Suffix, AfterObject, Ended, Comment}
 use Rattle.bye_ntriples.proofs.LineMeaning.{LeftTriple, Good}
-use Rattle.bye_ntriples.proofs.Running.{run_step, run_good}
+use Rattle.bye_lex.proofs.Machines.{run_step, run_good}
 use Rattle.bye_ntriples.proofs.TripleForth.{is_before_end}
-use Rattle.bye_ntriples.proofs.LineReached.{is_blank, mark_stops, end_is, Wanted, reached, into_subject, begun}
+use Rattle.bye_ntriples.proofs.LineReached.{is_blank, end_is, Wanted, reached, into_subject, begun}
 use Rattle.bye_ntriples.proofs.DocExact.{LeftDoc, GoodDoc, doc_machine, step_is}
 use Rattle.bye_ntriples.proofs.Passing.{Nothing, up_gives, up_takes, ends_with_dot, dot_state}
 use Rattle.bye_ntriples.proofs.Counting.{told_or_dot}
@@ -28,7 +28,7 @@ use Rattle.bye_ntriples.proofs.Overflow.{traced, lines_are, over_passes, front_o
 
 -- how a triple comes to be told of by a step: by its dot, or by the character after a label and a dot
 abbrev TellsBy : LineAt → ℕ → LineAt → Type 0
-TellsBy s c n = ((v : Statement) × (n ≡ Ended v) × (c ≡ 46)) ⊎ (((t : Term) × (p : List ℕ) × (label : List ℕ) × (s ≡ dot_state t p label) × (mark.step marks.Dotted c ≡ None)) ⊎ (held s ≡ 1))
+TellsBy s c n = ((v : Statement) × (n ≡ Ended v) × (c ≡ 46)) ⊎ (((t : Term) × (p : List ℕ) × (label : List ℕ) × (s ≡ dot_state t p label) × (label_steps.goes_on c ≡ false)) ⊎ (held s ≡ 1))
 
 wanted : (s : LineAt) (c : ℕ) → Wanted c (Unit {0}) (TellsBy s c) (λ v e. inl (v, refl, e)) s
 wanted s c = record {
@@ -88,11 +88,11 @@ before_end (Comment None) h b = cc
 before_end (Comment (Some v)) h b = cc
 
 -- a line's end goes on in no label
-pub end_shuts : (c : ℕ) → is_line_end c ≡ true → mark.step marks.Dotted c ≡ None
-end_shuts c b = ⊎_elim (λ e. ap (mark.step marks.Dotted) e ∙ (mark_stops marks.Dotted).0) (λ e. ap (mark.step marks.Dotted) e ∙ (mark_stops marks.Dotted).1) (end_is c b)
+pub end_shuts : (c : ℕ) → is_line_end c ≡ true → label_steps.goes_on c ≡ false
+end_shuts c b = ⊎_elim (λ e. ap label_steps.goes_on e) (λ e. ap label_steps.goes_on e) (end_is c b)
 
 -- told of by the character after the dot
-by_next : (front left : List ℕ) (d : DocAt) (c : ℕ) (t : Term) (p label : List ℕ) → all_scalars front ≡ true → IsScalar c → run step start front ≡ Some d → count d ≤ triple_limit → triple_limit < suc (length d.done) → d.at ≡ dot_state t p label → mark.step marks.Dotted c ≡ None
+by_next : (front left : List ℕ) (d : DocAt) (c : ℕ) (t : Term) (p label : List ℕ) → all_scalars front ≡ true → IsScalar c → run step start front ≡ Some d → count d ≤ triple_limit → triple_limit < suc (length d.done) → d.at ≡ dot_state t p label → label_steps.goes_on c ≡ false
     → HasPassed (encode_utf8_all (front ++ c ∷ []) ++ left)
 by_next front left d c t p label scalars is e within over at shut =
     let one = ap pending at in
@@ -101,7 +101,7 @@ by_next front left d c t p label scalars is e within over at shut =
     sym (append_assoc (encode_utf8_all front) (encode_utf8 c) left) ∙ ap (λ t. (encode_utf8_all front ++ t) ++ left) (sym (append-nil (encode_utf8 c))) ∙ ap (λ t. t ++ left) (sym (encodes-append front (c ∷ []))) in
     subst (λ b. HasPassed b) bytes
     (over_passes MayGoOn (λ further. Unit {0}) front (encode_utf8 c ++ left) d front_opens scalars e within more
-    (λ further any b behind scalar k. let same = prefix_free c b (left ++ further) behind is scalar (sym (append_assoc (encode_utf8 c) left further) ∙ k) in ap (mark.step marks.Dotted) (sym same.0) ∙ shut))
+    (λ further any b behind scalar k. let same = prefix_free c b (left ++ further) behind is scalar (sym (append_assoc (encode_utf8 c) left further) ∙ k) in ap label_steps.goes_on (sym same.0) ∙ shut))
 
 no_rest : (more : List ℕ) → more ++ codes "." ≡ [] → ⊥
 no_rest [] e = cc

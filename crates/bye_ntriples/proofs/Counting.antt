@@ -10,20 +10,20 @@ use Rattle.bye_terms.specs.Terms.{Statement}
 use Rattle.bye_terms.specs.declared.term.Term.{Term}
 use Rattle.bye_terms.specs.declared.term.Term.TheVariants.{Blank}
 use Rattle.bye_lex.specs.Utf8.{BeginsLabelPart}
-use Rattle.bye_lex.specs.declared.mark.MarkAt.TheVariants as marks
+use Rattle.bye_lex.specs.declared.label.LabelAt.TheVariants as labels
 use Rattle.bye_lex.proofs.Branches.{when, none_some, scalars_join, and_true}
 use Rattle.bye_ntriples.specs.Answers.{triple_limit, UpToDot, GoesOn, MayGoOn, AreEnded, PassesWhere, Passes, HasPassed}
 use Rattle.bye_ntriples.specs.DocSteps.{DocAt, start, line_moved, step, held, pending, count, is_over, is_over_there}
 use Rattle.bye_ntriples.specs.Documents.{NtText}
 use Rattle.bye_ntriples.specs.LineSteps as line
-use Rattle.bye_ntriples.specs.Running.{run, Marked}
-use Rattle.bye_ntriples.specs.TokenSteps.{marked}
+use Rattle.bye_lex.specs.Embedding.{enter}
+use Rattle.bye_lex.specs.Running.{run}
 use Rattle.bye_ntriples.specs.Triples.{triple_of}
 use Rattle.bye_ntriples.specs.declared.line.LineAt.{LineAt}
 use Rattle.bye_ntriples.specs.declared.line.LineAt.TheVariants.{Begin, Subject, AfterSubject, Predicate, AfterPredicate, Object, Suffix, AfterObject, Ended, Comment}
 use Rattle.bye_ntriples.specs.declared.line.ObjectAt.TheVariants as objects
 use Rattle.bye_ntriples.proofs.LineMeaning.{LeftTriple}
-use Rattle.bye_ntriples.proofs.Running.{run_on}
+use Rattle.bye_lex.proofs.Machines.{run_on}
 use Rattle.bye_ntriples.proofs.LineEnds.{triple_ends}
 use Rattle.bye_ntriples.proofs.Passing.{Nothing, split, Longer, back_scalars, up_gives, doc_of_line, lines_run, run_grows, AreDots, Further, dots_state, dot_state, dot_leads, goes_on}
 
@@ -125,38 +125,34 @@ no_passes front left d scalars e stops f p =
     (passes_tells GoesOn front left d scalars e stops p)
 
 -- a label that goes on after dots
-dots_then : (s : Term) (p text dots : List ℕ) (c : ℕ) → AreDots dots → is_label_part c ≡ true → Further (dots_state s p text) (dots ++ c ∷ [])
-dots_then s p text [] c are is =
-    let from : Marked = record { at = marks.Dotted; text = text } in
-    record {
-      more = c ∷ [];
-      behind = [];
-      parts = refl;
-      subject = s;
-      predicate = p;
-      label = text ++ c ∷ [];
-      leads = ap (option_and_then (λ n. Some n)) (ap (λ o. line.enter_mark (λ n. Object s p (objects.Label n)) (line.after_object (triple_of s p (Blank text)) c) false (option_map (marked from c) o)) (when _ _ _ is));
-    }
-dots_then s p text (d ∷ dots) c (are, all) is =
-    let w = dots_then s p (text ++ 46 ∷ []) dots c all is in
-    let first : Further (dots_state s p text) (46 ∷ dots ++ c ∷ []) =
+dots_then : (s : Term) (p label had dots : List ℕ) (c : ℕ) → AreDots dots → is_label_part c ≡ true → Further (dots_state s p label had) (dots ++ c ∷ [])
+dots_then s p label had [] c are is = record {
+  more = c ∷ [];
+  behind = [];
+  parts = refl;
+  subject = s;
+  predicate = p;
+  label = (label ++ had) ++ c ∷ [];
+  leads = ap (option_and_then (λ n. Some n)) (ap (λ o. enter (λ n. Object s p (objects.Label n)) (λ o c. line.after_object (triple_of s p (Blank o)) c) None c o) (when _ _ _ is));
+}
+dots_then s p label had (d ∷ dots) c (are, all) is =
+    let w = dots_then s p label (had ++ 46 ∷ []) dots c all is in
+    let first : Further (dots_state s p label had) (46 ∷ dots ++ c ∷ []) =
     record { more = 46 ∷ w.more; behind = w.behind; parts = ap (λ t. 46 ∷ t) w.parts; subject = w.subject; predicate = w.predicate; label = w.label; leads = w.leads } in
-    subst (λ d. Further (dots_state s p text) (d ∷ dots ++ c ∷ [])) (sym are) first
+    subst (λ d. Further (dots_state s p label had) (d ∷ dots ++ c ∷ [])) (sym are) first
 
 dot_then : (s : Term) (p label dots : List ℕ) (c : ℕ) → AreDots dots → is_label_part c ≡ true → Further (dot_state s p label) (dots ++ c ∷ [])
-dot_then s p label [] c are is =
-    let from : Marked = record { at = marks.Dotted; text = label ++ 46 ∷ [] } in
-    record {
-      more = c ∷ [];
-      behind = [];
-      parts = refl;
-      subject = s;
-      predicate = p;
-      label = (label ++ 46 ∷ []) ++ c ∷ [];
-      leads = ap (option_and_then (λ n. Some n)) (ap (λ o. line.settle_dot s p label c (option_map (marked from c) o)) (when _ _ _ is));
-    }
+dot_then s p label [] c are is = record {
+  more = c ∷ [];
+  behind = [];
+  parts = refl;
+  subject = s;
+  predicate = p;
+  label = (label ++ 46 ∷ []) ++ c ∷ [];
+  leads = ap (option_and_then (λ n. Some n)) (ap (λ o. line.settle_dot s p label c o) (when _ _ _ is));
+}
 dot_then s p label (d ∷ dots) c (are, all) is =
-    let w = dots_then s p ((label ++ 46 ∷ []) ++ 46 ∷ []) dots c all is in
+    let w = dots_then s p label (46 ∷ 46 ∷ []) dots c all is in
     let first : Further (dot_state s p label) (46 ∷ dots ++ c ∷ []) =
     record { more = 46 ∷ w.more; behind = w.behind; parts = ap (λ t. 46 ∷ t) w.parts; subject = w.subject; predicate = w.predicate; label = w.label; leads = w.leads } in
     subst (λ d. Further (dot_state s p label) (d ∷ dots ++ c ∷ [])) (sym are) first

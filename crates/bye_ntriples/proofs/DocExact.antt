@@ -12,7 +12,7 @@ use Rattle.bye_ntriples.specs.DocSteps.{DocAt, start, line_ended, line_moved, st
 use Rattle.bye_ntriples.specs.declared.line.LineAt.{LineAt}
 use Rattle.bye_ntriples.specs.declared.line.LineAt.TheVariants.{Begin}
 use Rattle.bye_ntriples.proofs.LineMeaning.{LeftLine, Good}
-use Rattle.bye_ntriples.proofs.Running.{Machine}
+use Rattle.bye_lex.proofs.Machines.{Machine}
 use Rattle.bye_ntriples.proofs.LineExact.{line_machine}
 use Rattle.bye_ntriples.proofs.LineEnds.{line_ends, line_may_end}
 use Rattle.bye_ntriples.proofs.LineReached.{stops}

@@ -13,10 +13,10 @@ use Rattle.bye_ntriples.specs.Answers.{triple_limit, MayBeFront, IsFault, IsFeed
 use Rattle.bye_ntriples.specs.DocSteps.{DocAt, start, step, final, is_over, is_over_there, Walked, Went, Stopped, Many, onward, walk, CannotWalk}
 use Rattle.bye_ntriples.specs.Feeding.{ReadingAt, LedTo, HasCome, Refuses, IsRefusal}
 use Rattle.bye_ntriples.specs.Judging.{CanGoOn, CannotGoOn}
-use Rattle.bye_ntriples.specs.Running.{run}
+use Rattle.bye_lex.specs.Running.{run}
 use Rattle.bye_ntriples.specs.declared.fault.NtErr.{NtErr}
 use Rattle.bye_ntriples.specs.declared.fault.NtErr.TheVariants as faults
-use Rattle.bye_ntriples.proofs.Running.{run_on}
+use Rattle.bye_lex.proofs.Machines.{run_on}
 use Rattle.bye_ntriples.proofs.Passing.{back_scalars, front_scalars}
 use Rattle.bye_ntriples.proofs.Reading.{stop_refuses, over_refuses, step_refuses, left_refuses, left_over_refuses, label_refuses, goes_further, end_reads, end_stops, end_leaves, end_passes, none_empty}
 

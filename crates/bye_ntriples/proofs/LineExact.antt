@@ -1,16 +1,16 @@
 -- The machine of lines reads lines.
 use Rattle.std.proofs.Common.{◌≡◌, refl, ℕ, Bool, true, false, cond, ◌==◌, List, ◌∷◌, Option, Some, None, ◌⊎◌, inl, inr, ⊎_elim, sym, ◌∙◌, ap, subst}
 use Rattle.bye_terms.specs.Terms.{Statement}
-use Rattle.bye_lex.specs.MarkSteps as mark
-use Rattle.bye_lex.specs.declared.mark.MarkAt.TheVariants as marks
+use Rattle.bye_lex.specs.LabelSteps as label_steps
+use Rattle.bye_lex.specs.declared.label.LabelAt.TheVariants as labels
 use Rattle.bye_lex.proofs.Branches.{when, unless, eqb_same, some_same, none_some, pick_of}
 use Rattle.bye_ntriples.specs.Lines.{is_space, is_line_end, LineEnd}
 use Rattle.bye_ntriples.specs.LineSteps as line
 use Rattle.bye_ntriples.specs.declared.line.LineAt.{LineAt}
 use Rattle.bye_ntriples.specs.declared.line.LineAt.TheVariants.{Begin, Subject, AfterSubject, Predicate, AfterPredicate, Object, Suffix, AfterObject, Ended, Comment}
 use Rattle.bye_ntriples.proofs.LineMeaning.{LeftTriple, LeftBlank, LeftLine, Good}
-use Rattle.bye_ntriples.proofs.Running.{Machine}
-use Rattle.bye_ntriples.proofs.Tokens.{Onward}
+use Rattle.bye_lex.proofs.Machines.{Machine}
+use Rattle.bye_lex.proofs.Embedding.{Onward}
 use Rattle.bye_ntriples.proofs.TripleForth.{Endings, space_is, triple_forth}
 use Rattle.bye_ntriples.proofs.TripleBack.{EndingBack, triple_back}
 use Rattle.bye_ntriples.proofs.LineReached.{is_blank, leads, subject_leads, begun, stays}
@@ -21,9 +21,9 @@ ended_forth : (stated : Statement) (c : ℕ) (t : List ℕ) → LineEnd (c ∷ t
 ended_forth stated c t (inl k) = (Ended stated, when _ _ _ k.0, (k.1, refl))
 ended_forth stated c t (inr k) = subst (λ c. Onward (LeftTriple LineEnd) (line.ended stated c) t stated) (sym k.0) (Comment (Some stated), refl, (k.1, refl))
 
-end_apart : (c : ℕ) (t : List ℕ) → LineEnd (c ∷ t) → mark.step marks.Dotted c ≡ None
-end_apart c t (inl k) = ⊎_elim (λ e. ap (mark.step marks.Dotted) e) (λ e. ap (mark.step marks.Dotted) e) (space_is c k.0)
-end_apart c t (inr k) = ap (mark.step marks.Dotted) k.0
+end_apart : (c : ℕ) (t : List ℕ) → LineEnd (c ∷ t) → label_steps.goes_on c ≡ false
+end_apart c t (inl k) = ⊎_elim (λ e. ap label_steps.goes_on e) (λ e. ap label_steps.goes_on e) (space_is c k.0)
+end_apart c t (inr k) = ap label_steps.goes_on k.0
 
 pub line_endings : Endings LineEnd
 line_endings = record { forth = ended_forth; apart = end_apart }

@@ -6,20 +6,22 @@ use Rattle.bye_terms.specs.declared.term.Term.{Term}
 use Rattle.bye_terms.specs.declared.term.Term.TheVariants.{Iri, Blank}
 use Rattle.bye_lex.specs.Languages.{Viable}
 use Rattle.bye_lex.specs.IriSteps as iri
-use Rattle.bye_lex.specs.MarkSteps.{wants}
 use Rattle.bye_lex.specs.declared.iri.IriAt.{IriAt}
-use Rattle.bye_lex.specs.declared.mark.MarkAt.{MarkAt}
-use Rattle.bye_lex.specs.declared.mark.MarkAt.TheVariants as marks
+use Rattle.bye_lex.specs.declared.label.LabelAt.{LabelAt}
+use Rattle.bye_lex.specs.declared.label.LabelAt.TheVariants as labels
 use Rattle.bye_lex.specs.declared.string.StringAt.{StringAt}
+use Rattle.bye_lex.specs.declared.tag.TagAt.{TagAt}
 use Rattle.bye_lex.specs.declared.string.StringAt.TheVariants as strings
-use Rattle.bye_lex.specs.declared.string.Quote.TheVariants.{Double, Single}
-use Rattle.bye_lex.specs.declared.string.Quoting.TheVariants.{Short, Long}
+use Rattle.bye_lex.specs.declared.quoting.Quote.TheVariants.{Double, Single}
+use Rattle.bye_lex.specs.declared.quoting.Quoting.TheVariants.{Short, Long}
 use Rattle.bye_lex.specs.declared.style.Style.TheVariants.{Triples}
 use Rattle.bye_lex.proofs.IriMeaning as iris
 use Rattle.bye_lex.proofs.StringMeaning as meant
+use Rattle.bye_lex.proofs.Embedding.{Within, Upto}
+use Rattle.bye_lex.proofs.LabelExact as label_exactly
+use Rattle.bye_lex.proofs.TagExact as tag_exactly
 use Rattle.bye_ntriples.specs.Lines.{Spaced, Dotted, Datatype, Carets, IsComment, LineEnd, Triple}
 use Rattle.bye_ntriples.specs.Lines as lines
-use Rattle.bye_ntriples.specs.Running.{Marked, marks_left}
 use Rattle.bye_ntriples.specs.Triples.{triple_of, tagged_of, typed_of}
 use Rattle.bye_ntriples.specs.declared.line.LineAt.{LineAt}
 use Rattle.bye_ntriples.specs.declared.line.LineAt.TheVariants.{Begin, Subject, AfterSubject, Predicate, AfterPredicate, Object, Suffix, AfterObject, Ended, Comment}
@@ -29,29 +31,17 @@ use Rattle.bye_ntriples.specs.declared.line.ObjectAt.TheVariants as objects
 use Rattle.bye_ntriples.specs.declared.line.SuffixAt.{SuffixAt}
 use Rattle.bye_ntriples.specs.declared.line.SuffixAt.TheVariants as suffixes
 
--- the rest of a token, one character or more, and then what goes with its value
-pub record Within {S V W : Type 0} (Left : S → List ℕ → V → Type 0) (Rest : V → List ℕ → W → Type 0) (s : S) (text : List ℕ) (w : W) : Type 0 where
-  pub first : ℕ
-  pub own : List ℕ
-  pub value : V
-  pub rest : List ℕ
-  pub is : Left s (first ∷ own) value
-  pub after : Rest value rest w
-  pub spelled : text ≡ first ∷ (own ++ rest)
-
--- the rest of a label or a tag, and then what goes with it
-pub record WithinMark {W : Type 0} (Rest : List ℕ → List ℕ → W → Type 0) (m : Marked) (text : List ℕ) (w : W) : Type 0 where
-  pub own : List ℕ
-  pub rest : List ℕ
-  pub is : wants m.at own ≡ true
-  pub after : Rest (m.text ++ drop (marks_left m.at) own) rest w
-  pub spelled : text ≡ own ++ rest
-
 abbrev pub WithinIri : {W : Type 0} → (List ℕ → List ℕ → W → Type 0) → IriAt → List ℕ → W → Type 0
-WithinIri Rest = Within (iris.Left true) Rest
+WithinIri Rest = Within (iris.Left Triples) Rest
 
 abbrev pub WithinString : {W : Type 0} → (List ℕ → List ℕ → W → Type 0) → StringAt → List ℕ → W → Type 0
 WithinString Rest = Within (meant.Left Triples) Rest
+
+abbrev pub WithinLabel : {W : Type 0} → (List ℕ → List ℕ → W → Type 0) → LabelAt → List ℕ → W → Type 0
+WithinLabel Rest = Upto label_exactly.Left Rest
+
+abbrev pub WithinTag : {W : Type 0} → (List ℕ → List ℕ → W → Type 0) → TagAt → List ℕ → W → Type 0
+WithinTag Rest = Upto tag_exactly.Left Rest
 
 -- what may stand after each token
 abbrev pub AfterSubjectIri : (List ℕ → Type 0) → List ℕ → List ℕ → Statement → Type 0
@@ -77,13 +67,13 @@ AfterDatatype End s p lexical datatype rest t = (is_lang_string datatype ≡ fal
 
 abbrev pub LeftObject : (List ℕ → Type 0) → Term → List ℕ → ObjectAt → List ℕ → Statement → Type 0
 LeftObject End s p (objects.Iri at) text t = WithinIri (AfterObjectIri End s p) at text t
-LeftObject End s p (objects.Label m) text t = WithinMark (AfterObjectLabel End s p) m text t
-LeftObject End s p (objects.Dot label) text t = WithinMark (AfterObjectLabel End s p) (record { at = marks.InLabel; text = label }) (46 ∷ text) t
+LeftObject End s p (objects.Label at) text t = WithinLabel (AfterObjectLabel End s p) at text t
+LeftObject End s p (objects.Dot label) text t = WithinLabel (AfterObjectLabel End s p) (labels.In label) (46 ∷ text) t
 LeftObject End s p (objects.String at) text t = WithinString (λ lexical. lines.Suffix End s p lexical) at text t
 
 abbrev pub LeftSuffix : (List ℕ → Type 0) → Term → List ℕ → List ℕ → SuffixAt → List ℕ → Statement → Type 0
 LeftSuffix End s p lexical suffixes.Start text t = lines.Suffix End s p lexical text t
-LeftSuffix End s p lexical (suffixes.Tag m) text t = WithinMark (AfterTag End s p lexical) m text t
+LeftSuffix End s p lexical (suffixes.Tag at) text t = WithinTag (AfterTag End s p lexical) at text t
 LeftSuffix End s p lexical suffixes.Caret text t = Carets End s p lexical (94 ∷ text) t
 LeftSuffix End s p lexical suffixes.Carets text t = Datatype End s p lexical text t
 LeftSuffix End s p lexical (suffixes.Datatype at) text t = WithinIri (AfterDatatype End s p lexical) at text t
@@ -93,7 +83,7 @@ LeftSuffix End s p lexical (suffixes.Datatype at) text t = WithinIri (AfterDatat
 abbrev pub LeftTriple : (List ℕ → Type 0) → LineAt → List ℕ → Statement → Type 0
 LeftTriple End Begin text t = Triple End text t
 LeftTriple End (Subject (subjects.Iri at)) text t = WithinIri (AfterSubjectIri End) at text t
-LeftTriple End (Subject (subjects.Label m)) text t = WithinMark (AfterSubjectLabel End) m text t
+LeftTriple End (Subject (subjects.Label at)) text t = WithinLabel (AfterSubjectLabel End) at text t
 LeftTriple End (AfterSubject s) text t = Spaced (lines.Predicate End s) text t
 LeftTriple End (Predicate s at) text t = WithinIri (AfterPredicateIri End s) at text t
 LeftTriple End (AfterPredicate s p) text t = Spaced (lines.Object End s p) text t
@@ -127,36 +117,8 @@ LeftLine at text fact = (LeftBlank at text × (fact ≡ None)) ⊎ Told at text 
 
 -- the states of tokens that are reached, and not at their ends
 pub record GoodIri (at : IriAt) : Type 0 where
-  pub viable : Viable (iris.Left true at) []
+  pub viable : Viable (iris.Left Triples at) []
   pub going : iri.final at ≡ None
-
-abbrev pub is_label_state : MarkAt → Bool
-is_label_state marks.Name = false
-is_label_state marks.InName = false
-is_label_state marks.Label = true
-is_label_state marks.Underscore = true
-is_label_state marks.Colon = true
-is_label_state marks.InLabel = true
-is_label_state marks.Dotted = true
-is_label_state marks.Tag = false
-is_label_state marks.Sign = false
-is_label_state marks.Letters = false
-is_label_state marks.Hyphen = false
-is_label_state marks.Subtag = false
-
-abbrev pub is_tag_state : MarkAt → Bool
-is_tag_state marks.Name = false
-is_tag_state marks.InName = false
-is_tag_state marks.Label = false
-is_tag_state marks.Underscore = false
-is_tag_state marks.Colon = false
-is_tag_state marks.InLabel = false
-is_tag_state marks.Dotted = false
-is_tag_state marks.Tag = true
-is_tag_state marks.Sign = true
-is_tag_state marks.Letters = true
-is_tag_state marks.Hyphen = true
-is_tag_state marks.Subtag = true
 
 -- a string of N-Triples has one quote
 abbrev pub is_open_string : StringAt → Bool
@@ -169,9 +131,9 @@ is_open_string (strings.In (Long q) out) = false
 is_open_string (strings.Backslash (Short Double) out) = true
 is_open_string (strings.Backslash (Short Single) out) = false
 is_open_string (strings.Backslash (Long q) out) = false
-is_open_string (strings.Digits (Short Double) left n out) = true
-is_open_string (strings.Digits (Short Single) left n out) = false
-is_open_string (strings.Digits (Long q) left n out) = false
+is_open_string (strings.Escape (Short Double) e out) = true
+is_open_string (strings.Escape (Short Single) e out) = false
+is_open_string (strings.Escape (Long q) e out) = false
 is_open_string (strings.OneQuote q out) = false
 is_open_string (strings.TwoQuotes q out) = false
 is_open_string (strings.Done out) = false
@@ -183,16 +145,16 @@ pub record GoodString (at : StringAt) : Type 0 where
 abbrev pub Good : LineAt → Type 0
 Good Begin = Unit {0}
 Good (Subject (subjects.Iri at)) = GoodIri at
-Good (Subject (subjects.Label m)) = is_label_state m.at ≡ true
+Good (Subject (subjects.Label at)) = Unit {0}
 Good (AfterSubject s) = Unit {0}
 Good (Predicate s at) = GoodIri at
 Good (AfterPredicate s p) = Unit {0}
 Good (Object s p (objects.Iri at)) = GoodIri at
-Good (Object s p (objects.Label m)) = is_label_state m.at ≡ true
+Good (Object s p (objects.Label at)) = Unit {0}
 Good (Object s p (objects.Dot label)) = Unit {0}
 Good (Object s p (objects.String at)) = GoodString at
 Good (Suffix s p lexical suffixes.Start) = Unit {0}
-Good (Suffix s p lexical (suffixes.Tag m)) = is_tag_state m.at ≡ true
+Good (Suffix s p lexical (suffixes.Tag at)) = Unit {0}
 Good (Suffix s p lexical suffixes.Caret) = Unit {0}
 Good (Suffix s p lexical suffixes.Carets) = Unit {0}
 Good (Suffix s p lexical (suffixes.Datatype at)) = GoodIri at

@@ -9,17 +9,18 @@ use Rattle.bye_terms.proofs.Tests.{both_parts}
 use Rattle.bye_lex.specs.Languages.{Viable}
 use Rattle.bye_lex.proofs.Branches.{some_same, none_some, scalars_join}
 use Rattle.bye_lex.proofs.Utf8Laws.{prefix_free}
-use Rattle.bye_ntriples.specs.Answers.{triple_limit, StopsAt, StopsAtEnd, LeavesOver, Passes, IsGraph}
+use Rattle.bye_ntriples.specs.Answers.{triple_limit, Passes, IsGraph}
+use Rattle.bye_lex.specs.Stopping.{StopsAt, StopsAtEnd, LeavesOver}
 use Rattle.bye_ntriples.specs.DocSteps.{DocAt, start, step, final, held, pending, count}
 use Rattle.bye_ntriples.specs.Documents.{NtText}
 use Rattle.bye_ntriples.specs.Laws.{NtAnswersOnce}
 use Rattle.bye_ntriples.specs.LineSteps as line
-use Rattle.bye_ntriples.specs.Running.{run}
+use Rattle.bye_lex.specs.Running.{run}
 use Rattle.bye_ntriples.specs.declared.fault.NtErr.TheVariants as faults
 use Rattle.bye_ntriples.specs.declared.line.LineAt.{LineAt}
 use Rattle.bye_ntriples.specs.declared.line.LineAt.TheVariants.{Begin, Subject, AfterSubject, Predicate, AfterPredicate, Object, Suffix, AfterObject, Ended, Comment}
 use Rattle.bye_ntriples.specs.declared.line.ObjectAt.TheVariants as objects
-use Rattle.bye_ntriples.proofs.Running.{run_gives}
+use Rattle.bye_lex.proofs.Machines.{run_gives}
 use Rattle.bye_ntriples.proofs.DocExact.{LeftDoc, GoodDoc, doc_machine, of_text, doc_ends, map_some}
 use Rattle.bye_ntriples.proofs.Passing.{split, Longer, back_scalars, front_scalars}
 use Rattle.bye_ntriples.proofs.Counting.{no_passes}
@@ -66,7 +67,7 @@ graph_halts bytes triples g = record {
   stuck = λ c rest scalar e w. none_empty c rest scalar e;
 }
 
-leaves_halts : (bytes : List ℕ) (place : ℕ) (l : LeavesOver bytes place) → Halts bytes l.front l.left
+leaves_halts : (bytes : List ℕ) (place : ℕ) (l : LeavesOver NtText bytes place) → Halts bytes l.front l.left
 leaves_halts bytes place l = record { parts = l.parts; scalars = l.scalars; viable = l.viable; stuck = λ c rest scalar e w. l.none c rest scalar e }
 
 -- a character stands at the front
@@ -84,7 +85,7 @@ record Refused (bytes : List ℕ) (place : ℕ) : Type 0 where
   pub at : place ≡ length (encode_utf8_all front)
   pub why : Stands left ⊎ ((left ≡ []) × ((triples : List Statement) → NtText front triples → ⊥))
 
-refused : (bytes : List ℕ) (place : ℕ) → StopsAt bytes place ⊎ StopsAtEnd bytes place → Refused bytes place
+refused : (bytes : List ℕ) (place : ℕ) → StopsAt NtText bytes place ⊎ StopsAtEnd NtText bytes place → Refused bytes place
 refused bytes place (inl s) =
     let is = both_parts _ _ (back_scalars s.front (s.next ∷ []) s.scalars) in
     let halts : Halts bytes s.front (encode_utf8 s.next ++ s.rest) =
@@ -121,7 +122,7 @@ graphs_same bytes a b g h =
 refused_same : (bytes : List ℕ) (a b : ℕ) → Refused bytes a → Refused bytes b → a ≡ b
 refused_same bytes a b x y = x.at ∙ ap (λ t. length (encode_utf8_all t)) (halts_same bytes x.front y.front x.left y.left x.halts y.halts).0 ∙ sym y.at
 
-leaves_same : (bytes : List ℕ) (a b : ℕ) → LeavesOver bytes a → LeavesOver bytes b → a ≡ b
+leaves_same : (bytes : List ℕ) (a b : ℕ) → LeavesOver NtText bytes a → LeavesOver NtText bytes b → a ≡ b
 leaves_same bytes a b x y = x.at ∙ ap (λ t. length (encode_utf8_all t)) (halts_same bytes x.front y.front x.left y.left (leaves_halts bytes a x) (leaves_halts bytes b y)).0 ∙ sym y.at
 
 -- and of two kinds
@@ -131,10 +132,10 @@ graph_refused bytes triples place g r =
     ⊎_elim (λ (k : Stands r.left). none_empty k.char k.rest k.scalar (same.1 ∙ k.is))
     (λ (k : (r.left ≡ []) × ((triples : List Statement) → NtText r.front triples → ⊥)). k.1 triples (subst (λ t. NtText t triples) same.0 g.doc.lines)) r.why
 
-graph_leaves : (bytes : List ℕ) (triples : List Statement) (place : ℕ) → IsGraph bytes triples → LeavesOver bytes place → ⊥
+graph_leaves : (bytes : List ℕ) (triples : List Statement) (place : ℕ) → IsGraph bytes triples → LeavesOver NtText bytes place → ⊥
 graph_leaves bytes triples place g l = not_empty l.left (sym (halts_same bytes g.doc.text l.front [] l.left (graph_halts bytes triples g) (leaves_halts bytes place l)).1) l.some
 
-refused_leaves : (bytes : List ℕ) (a b : ℕ) → Refused bytes a → LeavesOver bytes b → ⊥
+refused_leaves : (bytes : List ℕ) (a b : ℕ) → Refused bytes a → LeavesOver NtText bytes b → ⊥
 refused_leaves bytes a b r l =
     let same = halts_same bytes r.front l.front r.left l.left r.halts (leaves_halts bytes b l) in
     ⊎_elim (λ (k : Stands r.left). l.none k.char k.rest k.scalar (sym same.1 ∙ k.is))

@@ -7,24 +7,24 @@ use Rattle.std.proofs.lemmas.Str.{encodes-append}
 use Rattle.bye_terms.specs.Terms.{Statement}
 use Rattle.bye_terms.specs.declared.term.Term.{Term}
 use Rattle.bye_terms.specs.declared.term.Term.TheVariants.{Blank}
-use Rattle.bye_lex.specs.MarkSteps as mark
-use Rattle.bye_lex.specs.MarkSteps.{wants}
-use Rattle.bye_lex.specs.declared.mark.MarkAt.{MarkAt}
-use Rattle.bye_lex.specs.declared.mark.MarkAt.TheVariants as marks
+use Rattle.bye_lex.specs.LabelSteps as label_steps
+use Rattle.bye_lex.specs.declared.label.LabelAt.{LabelAt}
+use Rattle.bye_lex.specs.declared.label.LabelAt.TheVariants as labels
 use Rattle.bye_lex.proofs.Branches.{heads, some_same, none_some}
-use Rattle.bye_lex.proofs.MarkExact.{mark_exact}
+use Rattle.bye_lex.proofs.LabelExact.{Left, label_exact, gone_on}
+use Rattle.bye_terms.specs.Names.{is_label_rest}
 use Rattle.bye_ntriples.specs.Answers.{triple_limit, UpToDot, GoesOn, MayGoOn, AreEnded, PassesWhere}
-use Rattle.bye_ntriples.specs.DocSteps.{DocAt, start, line_ended, line_moved, step, held, pending, mark_pending, count}
+use Rattle.bye_ntriples.specs.DocSteps.{DocAt, start, line_ended, line_moved, step, held, pending, label_pending, count}
 use Rattle.bye_ntriples.specs.Documents.{NtText}
 use Rattle.bye_ntriples.specs.Lines.{is_space, is_line_end}
 use Rattle.bye_ntriples.specs.LineSteps as line
-use Rattle.bye_ntriples.specs.Running.{run}
+use Rattle.bye_lex.specs.Running.{run}
 use Rattle.bye_ntriples.specs.Triples.{triple_of}
 use Rattle.bye_ntriples.specs.declared.line.LineAt.{LineAt}
 use Rattle.bye_ntriples.specs.declared.line.LineAt.TheVariants.{Begin, Subject, AfterSubject, Predicate, AfterPredicate, Object, Suffix, AfterObject, Ended, Comment}
 use Rattle.bye_ntriples.specs.declared.line.ObjectAt.TheVariants as objects
 use Rattle.bye_ntriples.proofs.LineMeaning.{AfterObjectLabel, LeftTriple, Good}
-use Rattle.bye_ntriples.proofs.Running.{run_on, run_step, bind_some, run_good, run_takes}
+use Rattle.bye_lex.proofs.Machines.{run_on, run_step, bind_some, run_good, run_takes}
 use Rattle.bye_ntriples.proofs.LineReached.{is_blank, is_dots, is_dotted, Wanted, reached, into_subject, begun}
 use Rattle.bye_ntriples.proofs.LineEnds.{triple_ends, dot_left}
 use Rattle.bye_ntriples.proofs.DocExact.{LeftDoc, GoodDoc, doc_machine, as_text, doc_may_end, step_is}
@@ -154,50 +154,53 @@ lines_are front d t =
     subst (λ l. NtText l d.done) (append-nil t.lines) (as_text (t.lines ++ []) d.done (run_takes LeftDoc step GoodDoc doc_machine start (line_moved d.done Begin) t.lines [] d.done tt t.to_line end))
 
 -- what follows goes on in the label
-dot_goes : (s : Term) (p label : List ℕ) (c : ℕ) (t own rest : List ℕ) (v : Statement) → wants marks.InLabel own ≡ true → AfterObjectLabel Nothing s p (label ++ own) rest v → 46 ∷ c ∷ t ≡ own ++ rest → (k : MarkAt) × (mark.step marks.Dotted c ≡ Some k)
-dot_goes s p label c t [] rest v w k e = absurd (none (subst (λ r. AfterObjectLabel Nothing s p (label ++ []) r v) (sym e) k))
+dot_goes : (s : Term) (p label : List ℕ) (c : ℕ) (t own value rest : List ℕ) (v : Statement) → Left (labels.In label) own value → AfterObjectLabel Nothing s p value rest v → 46 ∷ c ∷ t ≡ own ++ rest → label_steps.goes_on c ≡ true
+dot_goes s p label c t [] value rest v w k e = absurd (none (subst (λ r. AfterObjectLabel Nothing s p value r v) (sym e) k))
   where
-    none : AfterObjectLabel Nothing s p (label ++ []) (46 ∷ c ∷ t) v → ⊥
+    none : AfterObjectLabel Nothing s p value (46 ∷ c ∷ t) v → ⊥
     none (inl k) = let z = k.0 in cc
     none (inr k) = let z : c ∷ t ≡ [] = (heads 46 46 (c ∷ t) k.rest k.spelled).1 ∙ k.end in cc
-dot_goes s p label c t (d ∷ []) rest v w k e = let z : wants marks.InLabel (46 ∷ []) ≡ true = subst (λ d. wants marks.InLabel (d ∷ []) ≡ true) (sym (heads 46 d (c ∷ t) rest e).0) w in cc
-dot_goes s p label c t (d ∷ b ∷ own) rest v w k e =
+dot_goes s p label c t (d ∷ []) value rest v w k e = let z : is_label_rest false (46 ∷ []) ≡ true = subst (λ d. is_label_rest false (d ∷ []) ≡ true) (sym (heads 46 d (c ∷ t) rest e).0) w.1 in cc
+dot_goes s p label c t (d ∷ b ∷ own) value rest v w k e =
     let h = heads 46 d (c ∷ t) (b ∷ own ++ rest) e in
     let g = heads c b t (own ++ rest) h.1 in
-    let w1 : wants marks.Dotted (c ∷ own) ≡ true = subst (λ b. wants marks.InLabel (46 ∷ b ∷ own) ≡ true) (sym g.0) (subst (λ d. wants marks.InLabel (d ∷ b ∷ own) ≡ true) (sym h.0) w) in
-    let n = mark_exact.forth marks.Dotted c own tt w1 in
-    (n.0, n.1)
+    let w1 : Left (labels.In label) (46 ∷ c ∷ own) value = subst (λ b. Left (labels.In label) (46 ∷ b ∷ own) value) (sym g.0) (subst (λ d. Left (labels.In label) (d ∷ b ∷ own) value) (sym h.0) w) in
+    let one = label_exact.forth (labels.In label) 46 (c ∷ own) value w1 in
+    let n = label_exact.forth (labels.Dotted label (46 ∷ [])) c own value (subst (λ n. Left n (c ∷ own) value) (sym (some_same one.1)) one.2) in
+    gone_on label (46 ∷ []) c n.0 n.1
 
-dots_go : (s : Term) (p text : List ℕ) (c : ℕ) (t own rest : List ℕ) → wants marks.Dotted own ≡ true → c ∷ t ≡ own ++ rest → (k : MarkAt) × (mark.step marks.Dotted c ≡ Some k)
-dots_go s p text c t [] rest w e = cc
-dots_go s p text c t (d ∷ own) rest w e =
+dots_go : (label dots : List ℕ) (c : ℕ) (t own value rest : List ℕ) → Left (labels.Dotted label dots) own value → c ∷ t ≡ own ++ rest → label_steps.goes_on c ≡ true
+dots_go label dots c t [] value rest w e = let z = w.1 in cc
+dots_go label dots c t (d ∷ own) value rest w e =
     let g = heads c d t (own ++ rest) e in
-    let n = mark_exact.forth marks.Dotted d own tt w in
-    (n.0, ap (mark.step marks.Dotted) g.0 ∙ n.1)
+    let n = label_exact.forth (labels.Dotted label dots) d own value w in
+    ap label_steps.goes_on g.0 ∙ gone_on label dots d n.0 n.1
 
 -- the states at dots
 abbrev AtDot : LineAt → Type 0
-AtDot n = (s : Term) × (p : List ℕ) × (text : List ℕ) × ((n ≡ dot_state s p text) ⊎ (n ≡ dots_state s p text))
+AtDot n = (s : Term) × (p : List ℕ) × (label : List ℕ) × ((n ≡ dot_state s p label) ⊎ ((dots : List ℕ) × (n ≡ dots_state s p label dots)))
 
-at_goes : (n : LineAt) (c : ℕ) (t : List ℕ) (v : Statement) → AtDot n → LeftTriple Nothing n (c ∷ t) v → (k : MarkAt) × (mark.step marks.Dotted c ≡ Some k)
-at_goes n c t v (s, p, text, inl e) h = let k : LeftTriple Nothing (dot_state s p text) (c ∷ t) v = subst (λ n. LeftTriple Nothing n (c ∷ t) v) e h in dot_goes s p text c t k.own k.rest v k.is k.after k.spelled
-at_goes n c t v (s, p, text, inr e) h = let k : LeftTriple Nothing (dots_state s p text) (c ∷ t) v = subst (λ n. LeftTriple Nothing n (c ∷ t) v) e h in dots_go s p text c t k.own k.rest k.is k.spelled
+at_goes : (n : LineAt) (c : ℕ) (t : List ℕ) (v : Statement) → AtDot n → LeftTriple Nothing n (c ∷ t) v → label_steps.goes_on c ≡ true
+at_goes n c t v (s, p, label, inl e) h =
+    let k : LeftTriple Nothing (dot_state s p label) (c ∷ t) v = subst (λ n. LeftTriple Nothing n (c ∷ t) v) e h in dot_goes s p label c t k.own k.value k.rest v k.is k.after k.spelled
+at_goes n c t v (s, p, label, inr e) h =
+    let k : LeftTriple Nothing (dots_state s p label e.0) (c ∷ t) v = subst (λ n. LeftTriple Nothing n (c ∷ t) v) e.1 h in dots_go label e.0 c t k.own k.value k.rest k.is k.spelled
 
 -- after dots one is at dots
-dot_step : (n : LineAt) → AtDot n → (m : LineAt) × (line.step n 46 ≡ Some m) × ((s : Term) × (p : List ℕ) × (text : List ℕ) × (m ≡ dots_state s p text))
-dot_step n (s, p, text, inl e) = (dots_state s p ((text ++ 46 ∷ []) ++ 46 ∷ []), ap (λ n. line.step n 46) e, (s, p, (text ++ 46 ∷ []) ++ 46 ∷ [], refl))
-dot_step n (s, p, text, inr e) = (dots_state s p (text ++ 46 ∷ []), ap (λ n. line.step n 46) e, (s, p, text ++ 46 ∷ [], refl))
+dot_step : (n : LineAt) → AtDot n → (m : LineAt) × (line.step n 46 ≡ Some m) × ((s : Term) × (p : List ℕ) × (label : List ℕ) × (dots : List ℕ) × (m ≡ dots_state s p label dots))
+dot_step n (s, p, label, inl e) = (dots_state s p label (46 ∷ 46 ∷ []), ap (λ n. line.step n 46) e, (s, p, label, 46 ∷ 46 ∷ [], refl))
+dot_step n (s, p, label, inr e) = (dots_state s p label (e.0 ++ 46 ∷ []), ap (λ n. line.step n 46) e.1, (s, p, label, e.0 ++ 46 ∷ [], refl))
 
 dots_run : (n : LineAt) (dots : List ℕ) → AtDot n → AreDots dots → (m : LineAt) × (run line.step n dots ≡ Some m) × AtDot m
 dots_run n [] at are = (n, refl, at)
 dots_run n (c ∷ dots) at (h, are) =
     let m = dot_step n at in
-    let k = dots_run m.0 dots (m.2.0, m.2.1, m.2.2, inr m.2.3) are in
+    let k = dots_run m.0 dots (m.2.0, m.2.1, m.2.2, inr (m.2.3, m.2.4)) are in
     (k.0, ap (λ c. option_and_then (λ n. run line.step n dots) (line.step n c)) h ∙ ap (option_and_then (λ n. run line.step n dots)) m.1 ∙ k.1, k.2)
 
 at_good : (n : LineAt) → AtDot n → Good n
-at_good n (s, p, text, inl e) = subst Good (sym e) tt
-at_good n (s, p, text, inr e) = subst Good (sym e) refl
+at_good n (s, p, label, inl e) = subst Good (sym e) tt
+at_good n (s, p, label, inr e) = subst Good (sym e.1) tt
 
 -- no triple ends at two dots
 no_two : (n : LineAt) (v : Statement) → AtDot n → LeftTriple Nothing n (46 ∷ []) v → ⊥
@@ -205,7 +208,7 @@ no_two n v at h =
     let m = dot_step n at in
     let k = up_gives n (46 ∷ []) [] v (at_good n at) h in
     let same : k.0 ≡ m.0 = some_same (sym k.1 ∙ ap (option_and_then (λ n. Some n)) m.1) in
-    let last : line.final (dots_state m.2.0 m.2.1 m.2.2) ≡ Some (Some v) = ap line.final (sym (same ∙ m.2.3)) ∙ triple_ends Nothing k.0 v k.2.1 in
+    let last : line.final (dots_state m.2.0 m.2.1 m.2.2 m.2.3) ≡ Some (Some v) = ap line.final (sym (same ∙ m.2.4)) ∙ triple_ends Nothing k.0 v k.2.1 in
     none_some last
 
 dots_front : (a b : List ℕ) → AreDots (a ++ b) → AreDots a
@@ -227,7 +230,7 @@ pub record Pending (front : List ℕ) (d : DocAt) : Type 0 where
   pub leads : run line.step Begin own ≡ Some (dot_state subject predicate label)
   pub here : run line.step (dot_state subject predicate label) dots ≡ Some d.at
 
-pub goes_where : (front left : List ℕ) (d : DocAt) (q : Pending front d) → all_scalars front ≡ true → GoesOn q.own (encode_utf8_all q.dots ++ left) → (c : ℕ) × (behind : List ℕ) × IsScalar c × (left ≡ encode_utf8 c ++ behind) × ((k : MarkAt) × (mark.step marks.Dotted c ≡ Some k))
+pub goes_where : (front left : List ℕ) (d : DocAt) (q : Pending front d) → all_scalars front ≡ true → GoesOn q.own (encode_utf8_all q.dots ++ left) → (c : ℕ) × (behind : List ℕ) × IsScalar c × (left ≡ encode_utf8 c ++ behind) × (label_steps.goes_on c ≡ true)
 goes_where front left d q scalars g =
     let at : LineAt = dot_state q.subject q.predicate q.label in
     let text = g.more ++ 46 ∷ [] in
@@ -236,7 +239,7 @@ goes_where front left d q scalars g =
     let h : LeftTriple Nothing at text g.longer = subst (λ n. LeftTriple Nothing n text g.longer) same n.2.1 in
     let dots_scalars = back_scalars (q.lines ++ q.own) q.dots (ap all_scalars (sym q.parts) ∙ scalars) in
     let start_at : AtDot at = (q.subject, q.predicate, q.label, inl refl) in
-    let R : Type 0 = (c : ℕ) × (behind : List ℕ) × IsScalar c × (left ≡ encode_utf8 c ++ behind) × ((k : MarkAt) × (mark.step marks.Dotted c ≡ Some k)) in
+    let R : Type 0 = (c : ℕ) × (behind : List ℕ) × IsScalar c × (left ≡ encode_utf8 c ++ behind) × (label_steps.goes_on c ≡ true) in
     ⊎_elim
     (λ (z : (z : List ℕ) × (q.dots ≡ g.more ++ z) × (g.behind ≡ encode_utf8_all z ++ left)).
     let are = dots_front g.more z.0 (subst AreDots z.1 q.are) in
@@ -260,21 +263,14 @@ pending_at (AfterSubject s) h = absurd (omega (arith, h))
 pending_at (Predicate s q) h = absurd (omega (arith, h))
 pending_at (AfterPredicate s p) h = absurd (omega (arith, h))
 pending_at (Object s p (objects.Iri q)) h = absurd (omega (arith, h))
-pending_at (Object s p (objects.Label m)) h = inr (mark_waits m.at h)
+pending_at (Object s p (objects.Label q)) h = inr (label_waits q h)
   where
-    mark_waits : (m : MarkAt) → 0 < mark_pending m → is_dotted m ≡ true
-    mark_waits marks.Name h = absurd (omega (arith, h))
-    mark_waits marks.InName h = absurd (omega (arith, h))
-    mark_waits marks.Label h = absurd (omega (arith, h))
-    mark_waits marks.Underscore h = absurd (omega (arith, h))
-    mark_waits marks.Colon h = absurd (omega (arith, h))
-    mark_waits marks.InLabel h = absurd (omega (arith, h))
-    mark_waits marks.Dotted h = refl
-    mark_waits marks.Tag h = absurd (omega (arith, h))
-    mark_waits marks.Sign h = absurd (omega (arith, h))
-    mark_waits marks.Letters h = absurd (omega (arith, h))
-    mark_waits marks.Hyphen h = absurd (omega (arith, h))
-    mark_waits marks.Subtag h = absurd (omega (arith, h))
+    label_waits : (q : LabelAt) → 0 < label_pending q → is_dotted q ≡ true
+    label_waits labels.Start h = absurd (omega (arith, h))
+    label_waits labels.Underscore h = absurd (omega (arith, h))
+    label_waits labels.Colon h = absurd (omega (arith, h))
+    label_waits (labels.In label) h = absurd (omega (arith, h))
+    label_waits (labels.Dotted label dots) h = refl
 pending_at (Object s p (objects.Dot label)) h = inl (s, p, label, refl)
 pending_at (Object s p (objects.String q)) h = absurd (omega (arith, h))
 pending_at (Suffix s p lexical q) h = absurd (omega (arith, h))
@@ -283,31 +279,21 @@ pending_at (Ended stated) h = absurd (omega (arith, h))
 pending_at (Comment fact) h = absurd (omega (arith, h))
 
 -- and the two are these
-pub waiting : (n : LineAt) → 0 < pending n → ((s : Term) × (p : List ℕ) × (text : List ℕ) × (n ≡ dot_state s p text)) ⊎ ((s : Term) × (p : List ℕ) × (text : List ℕ) × (n ≡ dots_state s p text))
-waiting n h = ⊎_elim (λ (k : (s : Term) × (p : List ℕ) × (text : List ℕ) × (n ≡ dot_state s p text)). inl k) (λ (k : is_dots n ≡ true). inr (dots_is n k)) (pending_at n h)
+pub waiting : (n : LineAt) → 0 < pending n → ((s : Term) × (p : List ℕ) × (label : List ℕ) × (n ≡ dot_state s p label)) ⊎ ((s : Term) × (p : List ℕ) × (label : List ℕ) × (dots : List ℕ) × (n ≡ dots_state s p label dots))
+waiting n h = ⊎_elim (λ (k : (s : Term) × (p : List ℕ) × (label : List ℕ) × (n ≡ dot_state s p label)). inl k) (λ (k : is_dots n ≡ true). inr (dots_is n k)) (pending_at n h)
   where
-    mark_is : (m : MarkAt) → is_dotted m ≡ true → m ≡ marks.Dotted
-    mark_is marks.Name e = cc
-    mark_is marks.InName e = cc
-    mark_is marks.Label e = cc
-    mark_is marks.Underscore e = cc
-    mark_is marks.Colon e = cc
-    mark_is marks.InLabel e = cc
-    mark_is marks.Dotted e = refl
-    mark_is marks.Tag e = cc
-    mark_is marks.Sign e = cc
-    mark_is marks.Letters e = cc
-    mark_is marks.Hyphen e = cc
-    mark_is marks.Subtag e = cc
-
-    dots_is : (n : LineAt) → is_dots n ≡ true → (s : Term) × (p : List ℕ) × (text : List ℕ) × (n ≡ dots_state s p text)
+    dots_is : (n : LineAt) → is_dots n ≡ true → (s : Term) × (p : List ℕ) × (label : List ℕ) × (dots : List ℕ) × (n ≡ dots_state s p label dots)
     dots_is Begin e = cc
     dots_is (Subject q) e = cc
     dots_is (AfterSubject s) e = cc
     dots_is (Predicate s q) e = cc
     dots_is (AfterPredicate s p) e = cc
     dots_is (Object s p (objects.Iri q)) e = cc
-    dots_is (Object s p (objects.Label m)) e = (s, p, m.text, λ i. Object s p (objects.Label (record { at = mark_is m.at e i; text = m.text })))
+    dots_is (Object s p (objects.Label labels.Start)) e = cc
+    dots_is (Object s p (objects.Label labels.Underscore)) e = cc
+    dots_is (Object s p (objects.Label labels.Colon)) e = cc
+    dots_is (Object s p (objects.Label (labels.In label))) e = cc
+    dots_is (Object s p (objects.Label (labels.Dotted label dots))) e = (s, p, label, dots, refl)
     dots_is (Object s p (objects.Dot label)) e = cc
     dots_is (Object s p (objects.String q)) e = cc
     dots_is (Suffix s p lexical q) e = cc
@@ -385,7 +371,7 @@ front_opens = record { goes = λ own rest g. (g.further, tt, g.goes) }
 
 -- nothing that comes goes on in a label after dots
 abbrev pub Shut : (List ℕ → Type 0) → List ℕ → Type 0
-Shut Allowed left = (further : List ℕ) → Allowed further → (c : ℕ) (behind : List ℕ) → IsScalar c → left ++ further ≡ encode_utf8 c ++ behind → mark.step marks.Dotted c ≡ None
+Shut Allowed left = (further : List ℕ) → Allowed further → (c : ℕ) (behind : List ℕ) → IsScalar c → left ++ further ≡ encode_utf8 c ++ behind → label_steps.goes_on c ≡ false
 
 -- one triple waits at most, and where one does, none was told of
 one_waits : (n : LineAt) → pending n ≤ 1
@@ -395,21 +381,14 @@ one_waits (AfterSubject s) = omega arith
 one_waits (Predicate s q) = omega arith
 one_waits (AfterPredicate s p) = omega arith
 one_waits (Object s p (objects.Iri q)) = omega arith
-one_waits (Object s p (objects.Label m)) = mark_one m.at
+one_waits (Object s p (objects.Label q)) = label_one q
   where
-    mark_one : (m : MarkAt) → mark_pending m ≤ 1
-    mark_one marks.Name = omega arith
-    mark_one marks.InName = omega arith
-    mark_one marks.Label = omega arith
-    mark_one marks.Underscore = omega arith
-    mark_one marks.Colon = omega arith
-    mark_one marks.InLabel = omega arith
-    mark_one marks.Dotted = omega arith
-    mark_one marks.Tag = omega arith
-    mark_one marks.Sign = omega arith
-    mark_one marks.Letters = omega arith
-    mark_one marks.Hyphen = omega arith
-    mark_one marks.Subtag = omega arith
+    label_one : (q : LabelAt) → label_pending q ≤ 1
+    label_one labels.Start = omega arith
+    label_one labels.Underscore = omega arith
+    label_one labels.Colon = omega arith
+    label_one (labels.In label) = omega arith
+    label_one (labels.Dotted label dots) = omega arith
 one_waits (Object s p (objects.Dot label)) = omega arith
 one_waits (Object s p (objects.String q)) = omega arith
 one_waits (Suffix s p lexical q) = omega arith
@@ -444,7 +423,7 @@ passes_at Open Allowed front left d opens scalars shut many q =
           let k = opens.goes q.own (encode_utf8_all q.dots ++ left) g in
           let goes : GoesOn q.own (encode_utf8_all q.dots ++ (left ++ k.0)) = subst (λ r. GoesOn q.own r) (append_assoc (encode_utf8_all q.dots) left k.0) k.2 in
           let w = goes_where front (left ++ k.0) d q scalars goes in
-          none_some (sym (shut k.0 k.1 w.0 w.1 w.2 w.3) ∙ w.4.1);
+          let z : ◌≡◌ {A = Bool} false true = sym (shut k.0 k.1 w.0 w.1 w.2 w.3) ∙ w.4 in cc;
     }
 
 pub over_passes : (Open : List ℕ → List ℕ → Type 0) (Allowed : List ℕ → Type 0) (front left : List ℕ) (d : DocAt) → Opens Open Allowed → all_scalars front ≡ true → run step start front ≡ Some d → count d ≤ triple_limit → triple_limit < count d + pending d.at → Shut Allowed left

@@ -8,27 +8,25 @@ use Rattle.bye_terms.specs.Terms.{Statement}
 use Rattle.bye_terms.specs.declared.term.Term.{Term}
 use Rattle.bye_terms.specs.declared.term.Term.TheVariants.{Blank}
 use Rattle.bye_terms.proofs.Tests.{both_parts}
-use Rattle.bye_lex.specs.MarkSteps as mark
-use Rattle.bye_lex.specs.MarkSteps.{is_whole}
-use Rattle.bye_lex.specs.declared.mark.MarkAt.{MarkAt}
-use Rattle.bye_lex.specs.declared.mark.MarkAt.TheVariants as marks
-use Rattle.bye_lex.proofs.Branches.{unless, eqb_same, some_same, none_some, and_true, pick_of, chosen}
+use Rattle.bye_lex.specs.LabelSteps as label_steps
+use Rattle.bye_lex.specs.declared.label.LabelAt.{LabelAt}
+use Rattle.bye_lex.specs.declared.label.LabelAt.TheVariants as labels
+use Rattle.bye_lex.proofs.Branches.{unless, eqb_same, some_same, none_some, and_true, pick_of, chosen, told}
 use Rattle.bye_lex.proofs.Utf8Laws.{prefix_free}
 use Rattle.bye_ntriples.specs.Answers.{UpToDot, GoesOn, AreEnded}
 use Rattle.bye_ntriples.specs.Documents.{NtText}
 use Rattle.bye_ntriples.specs.DocSteps.{DocAt, start, line_ended, line_moved, step, final, held, pending, count}
 use Rattle.bye_ntriples.specs.Lines.{is_space, is_line_end}
 use Rattle.bye_ntriples.specs.LineSteps as line
-use Rattle.bye_ntriples.specs.Running.{run, Marked}
-use Rattle.bye_ntriples.specs.TokenSteps.{marked}
+use Rattle.bye_lex.specs.Running.{run}
 use Rattle.bye_ntriples.specs.Triples.{triple_of}
 use Rattle.bye_ntriples.specs.declared.line.LineAt.{LineAt}
 use Rattle.bye_ntriples.specs.declared.line.LineAt.TheVariants.{Begin, Subject, AfterSubject, Predicate, AfterPredicate, Object, Suffix, AfterObject, Ended, Comment}
 use Rattle.bye_ntriples.specs.declared.line.ObjectAt.TheVariants as objects
 use Rattle.bye_ntriples.proofs.LineMeaning.{LeftTriple, Good}
-use Rattle.bye_ntriples.proofs.Running.{run_append, run_on, run_step, bind_some, run_gives}
-use Rattle.bye_ntriples.proofs.Tokens.{Onward, told}
-use Rattle.bye_ntriples.proofs.MarkTokens.{mark_gives}
+use Rattle.bye_lex.proofs.Machines.{run_append, run_on, run_step, bind_some, run_gives}
+use Rattle.bye_lex.proofs.Embedding.{Onward}
+use Rattle.bye_ntriples.proofs.Tokens.{label_gives}
 use Rattle.bye_terms.specs.Characters.{is_label_part}
 use Rattle.bye_ntriples.proofs.TripleForth.{Endings, is_before_end, triple_forth}
 use Rattle.bye_ntriples.proofs.TripleBack.{EndingBack, triple_back}
@@ -240,47 +238,46 @@ pub record Further (s : LineAt) (text : List ℕ) : Type 0 where
   pub subject : Term
   pub predicate : List ℕ
   pub label : List ℕ
-  pub leads : run line.step s more ≡ Some (Object subject predicate (objects.Label (record { at = marks.InLabel; text = label })))
+  pub leads : run line.step s more ≡ Some (Object subject predicate (objects.Label (labels.In label)))
 
-abbrev pub dots_state : Term → List ℕ → List ℕ → LineAt
-dots_state s p text = Object s p (objects.Label (record { at = marks.Dotted; text = text }))
+abbrev pub dots_state : Term → List ℕ → List ℕ → List ℕ → LineAt
+dots_state s p label dots = Object s p (objects.Label (labels.Dotted label dots))
 
 -- what a step after dots within a label is
-after_dots : (s : Term) (p text : List ℕ) (c : ℕ) (m : LineAt) → line.step (dots_state s p text) c ≡ Some m → (m ≡ Object s p (objects.Label (record { at = marks.InLabel; text = text ++ c ∷ [] }))) ⊎ ((c ≡ 46) × (m ≡ dots_state s p (text ++ c ∷ [])))
-after_dots s p text c m e =
-    let from : Marked = record { at = marks.Dotted; text = text } in
-    let R : Type 0 = (m ≡ Object s p (objects.Label (record { at = marks.InLabel; text = text ++ c ∷ [] }))) ⊎ ((c ≡ 46) × (m ≡ dots_state s p (text ++ c ∷ []))) in
+after_dots : (s : Term) (p label dots : List ℕ) (c : ℕ) (m : LineAt) → line.step (dots_state s p label dots) c ≡ Some m → (m ≡ Object s p (objects.Label (labels.In ((label ++ dots) ++ c ∷ [])))) ⊎ ((c ≡ 46) × (m ≡ dots_state s p label (dots ++ 46 ∷ [])))
+after_dots s p label dots c m e =
+    let R : Type 0 = (m ≡ Object s p (objects.Label (labels.In ((label ++ dots) ++ c ∷ [])))) ⊎ ((c ≡ 46) × (m ≡ dots_state s p label (dots ++ 46 ∷ []))) in
     ⊎_elim
-    (λ (k : (k : MarkAt) × (mark.step marks.Dotted c ≡ Some k) × (m ≡ Object s p (objects.Label (marked from c k)))).
+    (λ (k : (k : LabelAt) × (label_steps.step (labels.Dotted label dots) c ≡ Some k) × (m ≡ Object s p (objects.Label k))).
     let r : R =
-    pick_of {P = R} (is_label_part c) marks.InLabel k.0 (cond (c == 46) (Some marks.Dotted) None) k.1 (λ b q. inl (k.2 ∙ ap (λ k. Object s p (objects.Label (marked from c k))) q))
-    (λ q. pick_of {P = R} (c == 46) marks.Dotted k.0 None q (λ b q. inr (eqb_same c 46 b, k.2 ∙ ap (λ k. Object s p (objects.Label (marked from c k))) q)) (λ q. none_some q)) in r)
-    (λ (k : (mark.step marks.Dotted c ≡ None) × (is_whole marks.Dotted ≡ true) × (line.after_object (triple_of s p (Blank text)) c ≡ Some m)). let z = k.1 in let r : R = cc in r)
-    (mark_gives (λ n. Object s p (objects.Label n)) (λ o c. line.after_object (triple_of s p (Blank o)) c) from c m e)
+    pick_of {P = R} (is_label_part c) (labels.In ((label ++ dots) ++ c ∷ [])) k.0 (cond (c == 46) (Some (labels.Dotted label (dots ++ 46 ∷ []))) None) k.1 (λ b q. inl (k.2 ∙ ap (λ k. Object s p (objects.Label k)) q))
+    (λ q. pick_of {P = R} (c == 46) (labels.Dotted label (dots ++ 46 ∷ [])) k.0 None q (λ b q. inr (eqb_same c 46 b, k.2 ∙ ap (λ k. Object s p (objects.Label k)) q)) (λ q. none_some q)) in r)
+    (λ (k : (label_steps.step (labels.Dotted label dots) c ≡ None) × ((v : List ℕ) × (label_steps.final (labels.Dotted label dots) ≡ Some v) × (line.after_object (triple_of s p (Blank v)) c ≡ Some m))). none_some k.1.1)
+    (label_gives (λ n. Object s p (objects.Label n)) (λ o c. line.after_object (triple_of s p (Blank o)) c) (labels.Dotted label dots) c m e)
 
 abbrev DotsLead : LineAt → List ℕ → DocAt → Type 0
 DotsLead s text d = (AreDots text × (pending d.at ≡ 1)) ⊎ Further s text
 
-dots_lead : (done : List Statement) (s : Term) (p text rest : List ℕ) (d : DocAt) → run step (line_moved done (dots_state s p text)) rest ≡ Some d → DotsLead (dots_state s p text) rest d
-dots_lead done s p text [] d e = inl (tt, ap (λ (d : DocAt). pending d.at) (sym (some_same e)))
-dots_lead done s p text (c ∷ cs) d e =
-    let q = dots_state s p text in
+dots_lead : (done : List Statement) (s : Term) (p label dots rest : List ℕ) (d : DocAt) → run step (line_moved done (dots_state s p label dots)) rest ≡ Some d → DotsLead (dots_state s p label dots) rest d
+dots_lead done s p label dots [] d e = inl (tt, ap (λ (d : DocAt). pending d.at) (sym (some_same e)))
+dots_lead done s p label dots (c ∷ cs) d e =
+    let q = dots_state s p label dots in
     let m = bind_some (step (line_moved done q) c) (λ n. run step n cs) d e in
     ⊎_elim
     (λ (k : (is_line_end c ≡ true) × ((fact : Option Statement) × (line.final q ≡ Some fact) × (line_ended done fact ≡ m.0))). none_some k.1.1)
     (λ (k : (is_line_end c ≡ false) × ((x : LineAt) × (line.step q c ≡ Some x) × (line_moved done x ≡ m.0))).
     ⊎_elim
-    (λ (h : k.1.0 ≡ Object s p (objects.Label (record { at = marks.InLabel; text = text ++ c ∷ [] }))).
-    let r : DotsLead q (c ∷ cs) d = inr (record { more = c ∷ []; behind = cs; parts = refl; subject = s; predicate = p; label = text ++ c ∷ []; leads = ap (option_and_then (λ n. Some n)) k.1.1 ∙ ap Some h }) in r)
-    (λ (h : (c ≡ 46) × (k.1.0 ≡ dots_state s p (text ++ c ∷ []))).
-    let on : run step (line_moved done (dots_state s p (text ++ c ∷ []))) cs ≡ Some d = ap (λ n. run step n cs) (ap (line_moved done) (sym h.1) ∙ k.1.2) ∙ m.2 in
+    (λ (h : k.1.0 ≡ Object s p (objects.Label (labels.In ((label ++ dots) ++ c ∷ [])))).
+    let r : DotsLead q (c ∷ cs) d = inr (record { more = c ∷ []; behind = cs; parts = refl; subject = s; predicate = p; label = (label ++ dots) ++ c ∷ []; leads = ap (option_and_then (λ n. Some n)) k.1.1 ∙ ap Some h }) in r)
+    (λ (h : (c ≡ 46) × (k.1.0 ≡ dots_state s p label (dots ++ 46 ∷ []))).
+    let on : run step (line_moved done (dots_state s p label (dots ++ 46 ∷ []))) cs ≡ Some d = ap (λ n. run step n cs) (ap (line_moved done) (sym h.1) ∙ k.1.2) ∙ m.2 in
     ⊎_elim
     (λ (w : AreDots cs × (pending d.at ≡ 1)). let r : DotsLead q (c ∷ cs) d = inl ((h.0, w.0), w.1) in r)
-    (λ (w : Further (dots_state s p (text ++ c ∷ [])) cs).
+    (λ (w : Further (dots_state s p label (dots ++ 46 ∷ [])) cs).
     let r : DotsLead q (c ∷ cs) d =
     inr (record { more = c ∷ w.more; behind = w.behind; parts = ap (λ t. c ∷ t) w.parts; subject = w.subject; predicate = w.predicate; label = w.label; leads = ap (option_and_then (λ n. run line.step n w.more)) (k.1.1 ∙ ap Some h.1) ∙ w.leads }) in r)
-    (dots_lead done s p (text ++ c ∷ []) cs d on))
-    (after_dots s p text c k.1.0 k.1.1))
+    (dots_lead done s p label (dots ++ 46 ∷ []) cs d on))
+    (after_dots s p label dots c k.1.0 k.1.1))
     (step_is (line_moved done q) m.0 c m.1)
 
 -- after a label and a dot: the text is dots, the label goes on, or the triple is told of
@@ -297,18 +294,18 @@ ended_held stated c m e =
 
 -- what a step after that dot is
 after_one : (s : Term) (p label : List ℕ) (c : ℕ) (m : LineAt) → line.step (dot_state s p label) c ≡ Some m
-    → ((mark.step marks.Dotted c ≡ None) × (held m ≡ 1)) ⊎ ((m ≡ Object s p (objects.Label (record { at = marks.InLabel; text = (label ++ 46 ∷ []) ++ c ∷ [] }))) ⊎ ((c ≡ 46) × (m ≡ dots_state s p ((label ++ 46 ∷ []) ++ c ∷ []))))
+    → (held m ≡ 1) ⊎ ((m ≡ Object s p (objects.Label (labels.In ((label ++ 46 ∷ []) ++ c ∷ [])))) ⊎ ((c ≡ 46) × (m ≡ dots_state s p label (46 ∷ 46 ∷ []))))
 after_one s p label c m e =
-    let from : Marked = record { at = marks.Dotted; text = label ++ 46 ∷ [] } in
-    let R : Type 0 = ((mark.step marks.Dotted c ≡ None) × (held m ≡ 1)) ⊎ ((m ≡ Object s p (objects.Label (record { at = marks.InLabel; text = (label ++ 46 ∷ []) ++ c ∷ [] }))) ⊎ ((c ≡ 46) × (m ≡ dots_state s p ((label ++ 46 ∷ []) ++ c ∷ [])))) in
+    let dotted : LabelAt = labels.Dotted label (46 ∷ []) in
+    let R : Type 0 = (held m ≡ 1) ⊎ ((m ≡ Object s p (objects.Label (labels.In ((label ++ 46 ∷ []) ++ c ∷ [])))) ⊎ ((c ≡ 46) × (m ≡ dots_state s p label (46 ∷ 46 ∷ [])))) in
     ⊎_elim
-    (λ (f : mark.step marks.Dotted c ≡ None). let r : R = inl (f, ended_held (triple_of s p (Blank label)) c m (sym (ap (λ o. line.settle_dot s p label c (option_map (marked from c) o)) f) ∙ e)) in r)
-    (λ (f : (k : MarkAt) × (mark.step marks.Dotted c ≡ Some k)).
-    let is : Object s p (objects.Label (marked from c f.0)) ≡ m = some_same (sym (ap (λ o. line.settle_dot s p label c (option_map (marked from c) o)) f.1) ∙ e) in
+    (λ (f : label_steps.step dotted c ≡ None). let r : R = inl (ended_held (triple_of s p (Blank label)) c m (sym (ap (λ o. line.settle_dot s p label c o) f) ∙ e)) in r)
+    (λ (f : (k : LabelAt) × (label_steps.step dotted c ≡ Some k)).
+    let is : Object s p (objects.Label f.0) ≡ m = some_same (sym (ap (λ o. line.settle_dot s p label c o) f.1) ∙ e) in
     let r : R =
-    pick_of {P = R} (is_label_part c) marks.InLabel f.0 (cond (c == 46) (Some marks.Dotted) None) f.1 (λ b q. inr (inl (sym is ∙ ap (λ k. Object s p (objects.Label (marked from c k))) q)))
-    (λ q. pick_of {P = R} (c == 46) marks.Dotted f.0 None q (λ b q. inr (inr (eqb_same c 46 b, sym is ∙ ap (λ k. Object s p (objects.Label (marked from c k))) q))) (λ q. none_some q)) in r)
-    (told (mark.step marks.Dotted c))
+    pick_of {P = R} (is_label_part c) (labels.In ((label ++ 46 ∷ []) ++ c ∷ [])) f.0 (cond (c == 46) (Some (labels.Dotted label (46 ∷ 46 ∷ []))) None) f.1 (λ b q. inr (inl (sym is ∙ ap (λ k. Object s p (objects.Label k)) q)))
+    (λ q. pick_of {P = R} (c == 46) (labels.Dotted label (46 ∷ 46 ∷ [])) f.0 None q (λ b q. inr (inr (eqb_same c 46 b, sym is ∙ ap (λ k. Object s p (objects.Label k)) q))) (λ q. none_some q)) in r)
+    (told (label_steps.step dotted c))
 
 pub dot_leads : (done : List Statement) (s : Term) (p label rest : List ℕ) (d : DocAt) → run step (line_moved done (dot_state s p label)) rest ≡ Some d → DotLeads done (dot_state s p label) rest d
 dot_leads done s p label [] d e = inl (inl (tt, ap (λ (d : DocAt). pending d.at) (sym (some_same e))))
@@ -324,23 +321,23 @@ dot_leads done s p label (c ∷ cs) d e =
     let r : DotLeads done q (c ∷ cs) d = inr (omega (arith, z, l, f, grows)) in r)
     (λ (k : (is_line_end c ≡ false) × ((x : LineAt) × (line.step q c ≡ Some x) × (line_moved done x ≡ m.0))).
     ⊎_elim
-    (λ (h : (mark.step marks.Dotted c ≡ None) × (held k.1.0 ≡ 1)).
+    (λ (h : held k.1.0 ≡ 1).
     let z = ap count k.1.2 in
-    let one = h.1 in
+    let one = h in
     let r : DotLeads done q (c ∷ cs) d = inr (omega (arith, z, one, grows)) in r)
-    (λ (h : (k.1.0 ≡ Object s p (objects.Label (record { at = marks.InLabel; text = (label ++ 46 ∷ []) ++ c ∷ [] }))) ⊎ ((c ≡ 46) × (k.1.0 ≡ dots_state s p ((label ++ 46 ∷ []) ++ c ∷ [])))).
+    (λ (h : (k.1.0 ≡ Object s p (objects.Label (labels.In ((label ++ 46 ∷ []) ++ c ∷ [])))) ⊎ ((c ≡ 46) × (k.1.0 ≡ dots_state s p label (46 ∷ 46 ∷ [])))).
     let text = (label ++ 46 ∷ []) ++ c ∷ [] in
     ⊎_elim
-    (λ (h : k.1.0 ≡ Object s p (objects.Label (record { at = marks.InLabel; text = text }))).
+    (λ (h : k.1.0 ≡ Object s p (objects.Label (labels.In text))).
     let r : DotLeads done q (c ∷ cs) d = inl (inr (record { more = c ∷ []; behind = cs; parts = refl; subject = s; predicate = p; label = text; leads = ap (option_and_then (λ n. Some n)) k.1.1 ∙ ap Some h })) in r)
-    (λ (h : (c ≡ 46) × (k.1.0 ≡ dots_state s p text)).
-    let on : run step (line_moved done (dots_state s p text)) cs ≡ Some d = ap (λ n. run step n cs) (ap (line_moved done) (sym h.1) ∙ k.1.2) ∙ m.2 in
+    (λ (h : (c ≡ 46) × (k.1.0 ≡ dots_state s p label (46 ∷ 46 ∷ []))).
+    let on : run step (line_moved done (dots_state s p label (46 ∷ 46 ∷ []))) cs ≡ Some d = ap (λ n. run step n cs) (ap (line_moved done) (sym h.1) ∙ k.1.2) ∙ m.2 in
     ⊎_elim
     (λ (w : AreDots cs × (pending d.at ≡ 1)). let r : DotLeads done q (c ∷ cs) d = inl (inl ((h.0, w.0), w.1)) in r)
-    (λ (w : Further (dots_state s p text) cs).
+    (λ (w : Further (dots_state s p label (46 ∷ 46 ∷ [])) cs).
     let r : DotLeads done q (c ∷ cs) d =
     inl (inr (record { more = c ∷ w.more; behind = w.behind; parts = ap (λ t. c ∷ t) w.parts; subject = w.subject; predicate = w.predicate; label = w.label; leads = ap (option_and_then (λ n. run line.step n w.more)) (k.1.1 ∙ ap Some h.1) ∙ w.leads })) in r)
-    (dots_lead done s p text cs d on))
+    (dots_lead done s p label (46 ∷ 46 ∷ []) cs d on))
     h)
     (after_one s p label c k.1.0 k.1.1))
     (step_is (line_moved done q) m.0 c m.1)
@@ -348,7 +345,7 @@ dot_leads done s p label (c ∷ cs) d e =
 -- where the label goes on, the text is a longer triple with these characters and a dot
 pub goes_on : (own text left : List ℕ) (s : LineAt) → run line.step Begin own ≡ Some s → all_scalars text ≡ true → Further s text → GoesOn own (encode_utf8_all text ++ left)
 goes_on own text left s e scalars f =
-    let at : LineAt = Object f.subject f.predicate (objects.Label (record { at = marks.InLabel; text = f.label })) in
+    let at : LineAt = Object f.subject f.predicate (objects.Label (labels.In f.label)) in
     let ran : run line.step Begin (own ++ f.more) ≡ Some at = run_on line.step Begin s own f.more e ∙ f.leads in
     let dot : run line.step Begin ((own ++ f.more) ++ 46 ∷ []) ≡ Some (dot_state f.subject f.predicate f.label) = run_step line.step Begin at (own ++ f.more) 46 ran in
     let v = triple_of f.subject f.predicate (Blank f.label) in

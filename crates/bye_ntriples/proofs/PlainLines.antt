@@ -13,8 +13,8 @@ use Rattle.bye_terms.proofs.Tests.{both_parts}
 use Rattle.bye_lex.specs.Iris.{IriToken}
 use Rattle.bye_lex.specs.Marks.{LabelToken, TagToken}
 use Rattle.bye_lex.specs.Strings.{Group, IsGroup, group_text, group_value, StringToken}
-use Rattle.bye_lex.specs.declared.string.Quote.TheVariants.{Double}
-use Rattle.bye_lex.specs.declared.string.Quoting.TheVariants.{Short}
+use Rattle.bye_lex.specs.declared.quoting.Quote.TheVariants.{Double}
+use Rattle.bye_lex.specs.declared.quoting.Quoting.TheVariants.{Short}
 use Rattle.bye_lex.specs.declared.style.Style.TheVariants.{Triples}
 use Rattle.bye_lex.proofs.Branches.{some_same, none_some}
 use Rattle.bye_ntriples.specs.Lines.{is_space, is_line_end, Spaced, Then, LineEnd, Dot, Dotted, DatatypeToken, AfterSpaces, Suffix, Object, Predicate, Subject, Line}
@@ -50,7 +50,7 @@ then L Rest own more rest text value w token e f = (
   record { own = own; value = value; rest = f.0; token = token; after = f.2; spelled = refl },
 )
 
-iri_token : (text : List ℕ) (r : List ℕ × List ℕ) → iri_at text ≡ Some r → (text ≡ term_text (Iri r.0) ++ r.1) × IriToken true (term_text (Iri r.0)) r.0
+iri_token : (text : List ℕ) (r : List ℕ × List ℕ) → iri_at text ≡ Some r → (text ≡ term_text (Iri r.0) ++ r.1) × IriToken Triples (term_text (Iri r.0)) r.0
 iri_token text r e =
     let k = iri_takes text r e in
     (k.0 ∙ ap (λ t. 60 ∷ t) (sym (append_assoc r.0 (62 ∷ []) r.1)), (tokens (Iri r.0) k.1).is)
@@ -88,7 +88,7 @@ record IsIriAt (text : List ℕ) (r : Term × List ℕ) : Type 0 where
   iri : List ℕ
   is : r.0 ≡ Iri iri
   spelled : text ≡ term_text (Iri iri) ++ r.1
-  token : IriToken true (term_text (Iri iri)) iri
+  token : IriToken Triples (term_text (Iri iri)) iri
 
 record IsLabelAt (text : List ℕ) (r : Term × List ℕ) : Type 0 where
   label : List ℕ
@@ -119,7 +119,7 @@ subject_front : (End : List ℕ → Type 0) (rest : List ℕ) (t : Statement) (t
 subject_front End rest t text r e f =
     ⊎_elim
     (λ (k : IsIriAt text r).
-    let w = then (IriToken true) (λ s. Spaced (Predicate End (Iri s))) (term_text (Iri k.iri)) r.1 rest text k.iri t k.token k.spelled (subst (λ s. Front (Spaced (Predicate End s)) rest t r.1) k.is f) in
+    let w = then (IriToken Triples) (λ s. Spaced (Predicate End (Iri s))) (term_text (Iri k.iri)) r.1 rest text k.iri t k.token k.spelled (subst (λ s. Front (Spaced (Predicate End s)) rest t r.1) k.is f) in
     let all : Front (Subject End) rest t text = (w.0, w.1, inl w.2) in all)
     (λ (k : IsLabelAt text r).
     let w = then LabelToken (λ s. Spaced (Predicate End (Blank s))) (95 ∷ 58 ∷ k.label) r.1 rest text k.label t k.token k.spelled (subst (λ s. Front (Spaced (Predicate End s)) rest t r.1) k.is f) in
@@ -129,7 +129,7 @@ subject_front End rest t text r e f =
 predicate_front : (End : List ℕ → Type 0) (s : Term) (rest : List ℕ) (t : Statement) (text : List ℕ) (r : List ℕ × List ℕ) → iri_at text ≡ Some r → Front (Spaced (Object End s r.0)) rest t r.1 → Front (Predicate End s) rest t text
 predicate_front End s rest t text r e f =
     let k = iri_token text r e in
-    then (IriToken true) (λ p. Spaced (Object End s p)) (term_text (Iri r.0)) r.1 rest text r.0 t k.1 k.0 f
+    then (IriToken Triples) (λ p. Spaced (Object End s p)) (term_text (Iri r.0)) r.1 rest text r.0 t k.1 k.0 f
 
 -- a string of characters that stand for themselves
 abbrev raw : ℕ → Group
@@ -185,7 +185,7 @@ module _ (End : List ℕ → Type 0) (s : Term) (p lexical rest : List ℕ) (t :
       go true is e = none_some e
       go false is e = (is, sym (some_same e))
 
-  typed_parts : (text inner iri : List ℕ) (q : List ℕ × List ℕ) (o : Term) → text ≡ 94 ∷ 94 ∷ inner → (inner ≡ iri ++ q.1) × IriToken true iri q.0 → (is_lang_string q.0 ≡ false) × (o ≡ typed_of lexical q.0) → After o q.1 → Front (Suffix End s p lexical) rest t text
+  typed_parts : (text inner iri : List ℕ) (q : List ℕ × List ℕ) (o : Term) → text ≡ 94 ∷ 94 ∷ inner → (inner ≡ iri ++ q.1) × IriToken Triples iri q.0 → (is_lang_string q.0 ≡ false) × (o ≡ typed_of lexical q.0) → After o q.1 → Front (Suffix End s p lexical) rest t text
   typed_parts text inner iri q o at token is f =
       let g : After (typed_of lexical q.0) q.1 = subst (λ o. After o q.1) is.1 f in
       let w = then DatatypeToken (λ datatype. Dotted End (triple_of s p (typed_of lexical datatype))) iri q.1 rest inner q.0 t (token.1, is.0) token.0 g in
@@ -233,7 +233,7 @@ object_front End s p rest t text r e f = go (after_at 34 text) refl e
   where
     node : IsIriAt text r ⊎ IsLabelAt text r → Front (Object End s p) rest t text
     node (inl k) =
-        let w = then (IriToken true) (λ o. Dotted End (triple_of s p (Iri o))) (term_text (Iri k.iri)) r.1 rest text k.iri t k.token k.spelled (subst (λ o. Front (Dotted End (triple_of s p o)) rest t r.1) k.is f) in
+        let w = then (IriToken Triples) (λ o. Dotted End (triple_of s p (Iri o))) (term_text (Iri k.iri)) r.1 rest text k.iri t k.token k.spelled (subst (λ o. Front (Dotted End (triple_of s p o)) rest t r.1) k.is f) in
         (w.0, w.1, inl w.2)
     node (inr k) =
         let w = then LabelToken (λ o. Dotted End (triple_of s p (Blank o))) (95 ∷ 58 ∷ k.label) r.1 rest text k.label t k.token k.spelled (subst (λ o. Front (Dotted End (triple_of s p o)) rest t r.1) k.is f) in

@@ -12,7 +12,7 @@ use Rattle.bye_ntriples.specs.DocSteps.{DocAt, Many, line_moved, line_ended, ste
 use Rattle.bye_ntriples.specs.LineSteps as line
 use Rattle.bye_ntriples.specs.Lines.{Line}
 use Rattle.bye_ntriples.specs.PlainLines.{plain_line}
-use Rattle.bye_ntriples.specs.Running.{run}
+use Rattle.bye_lex.specs.Running.{run}
 use Rattle.bye_ntriples.specs.declared.line.LineAt.{LineAt}
 use Rattle.bye_ntriples.specs.declared.line.LineAt.TheVariants.{Begin}
 use Rattle.bye_ntriples.proofs.Completing.{held_one}
@@ -21,7 +21,7 @@ use Rattle.bye_ntriples.proofs.LineEnds.{line_ends}
 use Rattle.bye_ntriples.proofs.LineExact.{line_machine}
 use Rattle.bye_ntriples.proofs.LineMeaning.{Good, LeftLine}
 use Rattle.bye_ntriples.proofs.PlainLines.{plain_line_is}
-use Rattle.bye_ntriples.proofs.Running.{bind_some, run_gives}
+use Rattle.bye_lex.proofs.Machines.{bind_some, run_gives}
 
 not_over : (n : ℕ) → n ≤ triple_limit → nat_lt triple_limit n ≡ false
 not_over n h = grind (arith, nat_tests)

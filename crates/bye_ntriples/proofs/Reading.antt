@@ -10,28 +10,29 @@ use Rattle.bye_terms.specs.declared.term.Term.{Term}
 use Rattle.bye_terms.specs.declared.term.Term.TheVariants.{Blank}
 use Rattle.bye_terms.proofs.Tests.{both_parts}
 use Rattle.bye_lex.specs.Languages.{Viable}
-use Rattle.bye_lex.specs.MarkSteps as mark
-use Rattle.bye_lex.specs.MarkSteps.{is_whole}
+use Rattle.bye_lex.specs.LabelSteps as label_steps
+use Rattle.bye_lex.specs.Embedding.{enter}
+use Rattle.bye_lex.specs.Stopping.{StopsAt, StopsAtEnd, LeavesOver}
 use Rattle.bye_lex.specs.Utf8.{BeginsCharacter, NoCharacter, BeginsLabelPart}
-use Rattle.bye_lex.specs.declared.mark.MarkAt.{MarkAt}
-use Rattle.bye_lex.specs.declared.mark.MarkAt.TheVariants as marks
-use Rattle.bye_lex.proofs.Branches.{heads, some_same, none_some, scalars_join, and_true, chosen, eqb_same, pick_of}
+use Rattle.bye_lex.specs.declared.label.LabelAt.{LabelAt}
+use Rattle.bye_lex.specs.declared.label.LabelAt.TheVariants as labels
+use Rattle.bye_lex.proofs.Branches.{heads, some_same, none_some, scalars_join, and_true, chosen, eqb_same, pick_of, told, either_of}
 use Rattle.bye_lex.proofs.Utf8Laws.{prefix_free, begins_none, none_after}
-use Rattle.bye_ntriples.specs.Answers.{triple_limit, StopsAt, StopsAtEnd, LeavesOver, Passes, HasPassed, GoesOn, MayGoOn, MayBeFront, IsFault, IsGraph}
+use Rattle.bye_ntriples.specs.Answers.{triple_limit, Passes, HasPassed, GoesOn, MayGoOn, MayBeFront, IsFault, IsGraph}
 use Rattle.bye_ntriples.specs.DocSteps.{DocAt, start, line_ended, line_moved, step, final, held, pending, count, is_over, is_over_there}
 use Rattle.bye_ntriples.specs.Documents.{NtText, NtDoc}
 use Rattle.bye_ntriples.specs.Feeding.{Refuses}
 use Rattle.bye_ntriples.specs.Lines.{is_line_end}
 use Rattle.bye_ntriples.specs.LineSteps as line
-use Rattle.bye_ntriples.specs.Running.{run, Marked}
-use Rattle.bye_ntriples.specs.TokenSteps.{marked}
+use Rattle.bye_lex.specs.Running.{run}
 use Rattle.bye_ntriples.specs.Triples.{triple_of}
 use Rattle.bye_ntriples.specs.declared.fault.NtErr.TheVariants as faults
 use Rattle.bye_ntriples.specs.declared.line.LineAt.{LineAt}
 use Rattle.bye_ntriples.specs.declared.line.LineAt.TheVariants.{Begin, Subject, AfterSubject, Predicate, AfterPredicate, Object, Suffix, AfterObject, Ended, Comment}
 use Rattle.bye_ntriples.specs.declared.line.ObjectAt.TheVariants as objects
-use Rattle.bye_ntriples.proofs.Running.{run_on, viable, not_viable, run_gives, run_takes}
-use Rattle.bye_ntriples.proofs.Tokens.{told}
+use Rattle.bye_lex.proofs.Machines.{run_on, viable, not_viable, run_gives, run_takes}
+use Rattle.bye_lex.proofs.LabelExact.{stopped_dots}
+use Rattle.bye_ntriples.proofs.Tokens.{decided}
 use Rattle.bye_ntriples.proofs.DocExact.{LeftDoc, GoodDoc, doc_machine, of_text, as_text, doc_may_end, doc_ends}
 use Rattle.bye_ntriples.proofs.Passing.{split, Longer, back_scalars, dots_state, dot_state}
 use Rattle.bye_ntriples.proofs.Counting.{StopsBefore, no_passes, not_passed, below, above}
@@ -103,7 +104,7 @@ stop_refuses front c rest d scalars is e stop f more =
     let left = encode_utf8 c ++ (rest ++ more) in
     let bytes : (encode_utf8_all (front ++ c ∷ []) ++ rest) ++ more ≡ encode_utf8_all front ++ left = append_assoc (encode_utf8_all (front ++ c ∷ [])) rest more ∙ at_char front c (rest ++ more) in
     let dead : run step start (front ++ c ∷ []) ≡ None = run_on step start d front (c ∷ []) e ∙ ap (option_and_then (λ n. Some n)) stop in
-    let at : StopsAt ((encode_utf8_all (front ++ c ∷ []) ++ rest) ++ more) (length (encode_utf8_all front)) =
+    let at : StopsAt NtText ((encode_utf8_all (front ++ c ∷ []) ++ rest) ++ more) (length (encode_utf8_all front)) =
     record { front = front; next = c; rest = rest ++ more; parts = append_assoc (encode_utf8_all (front ++ c ∷ [])) rest more; scalars = scalars_join front (c ∷ []) scalars (and_true _ _ is refl); before = text_viable front d e; after = text_stops (front ++ c ∷ []) dead; at = refl } in
     let stops = stops_before d c (rest ++ more) is stop in (
       (inl at, λ p. no_passes front left d scalars e stops f (subst Passes bytes p)),
@@ -111,7 +112,7 @@ stop_refuses front c rest d scalars is e stop f more =
     )
 
 -- the machine stops where a triple waits
-shut_of_stop : (d : DocAt) (c : ℕ) → step d c ≡ None → 0 < pending d.at → mark.step marks.Dotted c ≡ None
+shut_of_stop : (d : DocAt) (c : ℕ) → step d c ≡ None → 0 < pending d.at → label_steps.goes_on c ≡ false
 shut_of_stop d c e some =
     ⊎_elim
     (λ (k : (is_line_end c ≡ true) × (option_map (line_ended d.done) (line.final d.at) ≡ None)). end_shuts c k.0)
@@ -122,26 +123,24 @@ shut_of_stop d c e some =
     line_none None e = refl
     line_none (Some n) e = none_some (sym e)
 
-    at_dot : (s : Term) (p label : List ℕ) → line.step (dot_state s p label) c ≡ None → mark.step marks.Dotted c ≡ None
+    at_dot : (s : Term) (p label : List ℕ) → line.step (dot_state s p label) c ≡ None → label_steps.goes_on c ≡ false
     at_dot s p label e =
-        let from : Marked = record { at = marks.Dotted; text = label ++ 46 ∷ [] } in
-        ⊎_elim (λ (f : mark.step marks.Dotted c ≡ None). f)
-        (λ (f : (k : MarkAt) × (mark.step marks.Dotted c ≡ Some k)). none_some (sym e ∙ ap (λ o. line.settle_dot s p label c (option_map (marked from c) o)) f.1))
-        (told (mark.step marks.Dotted c))
+        ⊎_elim (λ (f : label_steps.step (labels.Dotted label (46 ∷ [])) c ≡ None). stopped_dots label (46 ∷ []) c f)
+        (λ (f : (k : LabelAt) × (label_steps.step (labels.Dotted label (46 ∷ [])) c ≡ Some k)). none_some (sym e ∙ ap (λ o. line.settle_dot s p label c o) f.1))
+        (told (label_steps.step (labels.Dotted label (46 ∷ [])) c))
 
-    at_dots : (s : Term) (p text : List ℕ) → line.step (dots_state s p text) c ≡ None → mark.step marks.Dotted c ≡ None
-    at_dots s p text e =
-        let from : Marked = record { at = marks.Dotted; text = text } in
-        ⊎_elim (λ (f : mark.step marks.Dotted c ≡ None). f)
-        (λ (f : (k : MarkAt) × (mark.step marks.Dotted c ≡ Some k)). none_some (sym e ∙ ap (λ o. line.enter_mark (λ n. Object s p (objects.Label n)) (line.after_object (triple_of s p (Blank text)) c) false (option_map (marked from c) o)) f.1))
-        (told (mark.step marks.Dotted c))
+    at_dots : (s : Term) (p label dots : List ℕ) → line.step (dots_state s p label dots) c ≡ None → label_steps.goes_on c ≡ false
+    at_dots s p label dots e =
+        ⊎_elim (λ (f : label_steps.step (labels.Dotted label dots) c ≡ None). stopped_dots label dots c f)
+        (λ (f : (k : LabelAt) × (label_steps.step (labels.Dotted label dots) c ≡ Some k)). none_some (sym e ∙ ap (λ o. enter (λ n. Object s p (objects.Label n)) (λ o c. line.after_object (triple_of s p (Blank o)) c) None c o) f.1))
+        (told (label_steps.step (labels.Dotted label dots) c))
 
-    go : option_map (line_moved d.done) (line.step d.at c) ≡ None → mark.step marks.Dotted c ≡ None
+    go : option_map (line_moved d.done) (line.step d.at c) ≡ None → label_steps.goes_on c ≡ false
     go k =
         let stop = line_none (line.step d.at c) k in
         ⊎_elim
         (λ (h : (s : Term) × (p : List ℕ) × (text : List ℕ) × (d.at ≡ dot_state s p text)). at_dot h.0 h.1 h.2 (ap (λ n. line.step n c) (sym h.3) ∙ stop))
-        (λ (h : (s : Term) × (p : List ℕ) × (text : List ℕ) × (d.at ≡ dots_state s p text)). at_dots h.0 h.1 h.2 (ap (λ n. line.step n c) (sym h.3) ∙ stop))
+        (λ (h : (s : Term) × (p : List ℕ) × (label : List ℕ) × (dots : List ℕ) × (d.at ≡ dots_state s p label dots)). at_dots h.0 h.1 h.2 h.3 (ap (λ n. line.step n c) (sym h.4) ∙ stop))
         (waiting d.at some)
 
 pub over_refuses : (front : List ℕ) (c : ℕ) (rest : List ℕ) (d : DocAt) → all_scalars front ≡ true → IsScalar c → run step start front ≡ Some d → step d c ≡ None → is_over d ≡ false → is_over_there d ≡ true → Refuses (encode_utf8_all (front ++ c ∷ []) ++ rest) faults.TooMany
@@ -155,7 +154,7 @@ over_refuses front c rest d scalars is e stop within over =
     let bytes : encode_utf8_all front ++ left ≡ (encode_utf8_all (front ++ c ∷ []) ++ rest) ++ more = sym (append_assoc (encode_utf8_all (front ++ c ∷ [])) rest more ∙ at_char front c (rest ++ more)) in
     subst HasPassed bytes
     (over_passes MayGoOn (λ further. Unit {0}) front left d front_opens scalars e w o
-    (λ further any b behind scalar k. let same = prefix_free c b ((rest ++ more) ++ further) behind is scalar (sym (append_assoc (encode_utf8 c) (rest ++ more) further) ∙ k) in ap (mark.step marks.Dotted) (sym same.0) ∙ shut)))
+    (λ further any b behind scalar k. let same = prefix_free c b ((rest ++ more) ++ further) behind is scalar (sym (append_assoc (encode_utf8 c) (rest ++ more) further) ∙ k) in ap label_steps.goes_on (sym same.0) ∙ shut)))
 
 -- a step completes a triple too many
 pub step_refuses : (front : List ℕ) (c : ℕ) (rest : List ℕ) (d n : DocAt) → all_scalars front ≡ true → IsScalar c → run step start front ≡ Some d → step d c ≡ Some n → is_over d ≡ false → is_over n ≡ true → Refuses (encode_utf8_all (front ++ c ∷ []) ++ rest) faults.TooMany
@@ -172,7 +171,7 @@ left_refuses front left d scalars e none not some f more =
     let none_all = none_after left more none not in
     let stops = none_before d all none_all in
     let n = length-append left more in
-    let over : LeavesOver ((encode_utf8_all front ++ left) ++ more) (length (encode_utf8_all front)) =
+    let over : LeavesOver NtText ((encode_utf8_all front ++ left) ++ more) (length (encode_utf8_all front)) =
     record { front = front; left = all; parts = bytes; scalars = scalars; viable = text_viable front d e; some = omega (arith, n, some); none = none_all; at = refl } in (
       (over, λ p. no_passes front all d scalars e stops f (subst Passes bytes p)),
       λ (m : MayBeFront ((encode_utf8_all front ++ left) ++ more)). no_front front d all scalars e stops (λ b. not (begins_front left more b)) stops (subst MayBeFront bytes m),
@@ -224,15 +223,16 @@ label_refuses front left d scalars e none not within over =
     (over_passes MayGoOn (λ further. Unit {0}) front (left ++ more) d front_opens scalars e (above triple_limit (count d) within) (below triple_limit (count d + pending d.at) over)
     (λ further any c behind scalar k. shut (more ++ further) c behind scalar (sym (append_assoc left more further) ∙ k))))
   where
-    shut : (further : List ℕ) (c : ℕ) (behind : List ℕ) → IsScalar c → left ++ further ≡ encode_utf8 c ++ behind → mark.step marks.Dotted c ≡ None
+    shut : (further : List ℕ) (c : ℕ) (behind : List ℕ) → IsScalar c → left ++ further ≡ encode_utf8 c ++ behind → label_steps.goes_on c ≡ false
     shut further c behind scalar k =
-        ⊎_elim (λ (f : mark.step marks.Dotted c ≡ None). f)
-        (λ (f : (q : MarkAt) × (mark.step marks.Dotted c ≡ Some q)).
-        let R : Type 0 = mark.step marks.Dotted c ≡ None in
-        let r : R =
-        pick_of {P = R} (is_label_part c) marks.InLabel f.0 (cond (c == 46) (Some marks.Dotted) None) f.1 (λ b q. absurd (not (label_part left further behind c none scalar k b)))
-        (λ q. pick_of {P = R} (c == 46) marks.Dotted f.0 None q (λ b q. absurd (not (dot_left_over left further behind none (k ∙ ap (λ c. encode_utf8 c ++ behind) (eqb_same c 46 b))))) (λ q. none_some q)) in r)
-        (told (mark.step marks.Dotted c))
+        ⊎_elim
+        (λ (f : label_steps.goes_on c ≡ true).
+        ⊎_elim
+        (λ (b : is_label_part c ≡ true). absurd (not (label_part left further behind c none scalar k b)))
+        (λ (b : (c == 46) ≡ true). absurd (not (dot_left_over left further behind none (k ∙ ap (λ c. encode_utf8 c ++ behind) (eqb_same c 46 b)))))
+        (either_of (is_label_part c) (c == 46) f))
+        (λ (f : label_steps.goes_on c ≡ false). f)
+        (decided (label_steps.goes_on c))
 
 -- the bytes may be the front of a document
 pub goes_further : (front left : List ℕ) (d : DocAt) → all_scalars front ≡ true → run step start front ≡ Some d → BeginsCharacter left → is_over d ≡ false → (is_over_there d ≡ false) ⊎ BeginsLabelPart left → MayBeFront (encode_utf8_all front ++ left)
@@ -296,7 +296,7 @@ end_stops front d place scalars e f last at =
     let none : (triples : List Statement) → NtText front triples → ⊥ =
     λ triples h. let n = run_gives LeftDoc step GoodDoc doc_machine start front [] triples tt (subst (λ t. LeftDoc start t triples) (sym (append-nil front)) (of_text front triples h)) in
     none_some (sym last ∙ ap final (some_same (sym e ∙ n.1)) ∙ doc_ends n.0 triples n.2) in
-    let end : StopsAtEnd (encode_utf8_all front ++ []) place =
+    let end : StopsAtEnd NtText (encode_utf8_all front ++ []) place =
     record { text = front; scalars = scalars; encoded = whole_is front; viable = text_viable front d e; none = none; at = at ∙ ap length (sym (whole_is front)) } in
     (inr end, no_passes front [] d scalars e (none_before d [] none_empty) f)
 

@@ -10,7 +10,7 @@ use Rattle.bye_lex.specs.Escapes.{Piece, is_scalar, IsRaw, IsEscape}
 use Rattle.bye_lex.specs.Iris.{IsIriPiece, IriToken}
 use Rattle.bye_lex.specs.Marks.{LabelToken, TagToken}
 use Rattle.bye_lex.specs.Strings.{IsNamed, IsStringPiece, Group, IsGroup, quote_of, group_text, group_value, around, StringToken}
-use Rattle.bye_lex.specs.declared.string.Quoting.{Quoting}
+use Rattle.bye_lex.specs.declared.quoting.Quoting.{Quoting}
 use Rattle.bye_lex.specs.declared.style.Style.TheVariants.{Triples}
 use Rattle.bye_lex.proofs.Branches.{and_true, some_same, none_some, scalars_join}
 use Rattle.bye_lex.proofs.IriReads.{token_is}
@@ -43,14 +43,14 @@ escape_is : (p : Piece) (count other : ℕ) → IsEscape p 117 count ⊎ IsEscap
 escape_is p count other h = ⊎_elim (λ (k : IsEscape p 117 count). scalar_is p.char k.scalar) (λ (k : IsEscape p 85 other). scalar_is p.char k.scalar) h
 
 -- what tokens stand for is text of Unicode
-iri_pieces : (ps : List Piece) → AllByRecursion (IsIriPiece true) ps → Scalars (flat_map (λ p. p.text) ps) → Scalars (map (λ p. p.char) ps)
+iri_pieces : (ps : List Piece) → AllByRecursion (IsIriPiece Triples) ps → Scalars (flat_map (λ p. p.text) ps) → Scalars (map (λ p. p.char) ps)
 iri_pieces [] each s = refl
 iri_pieces (p ∷ ps) each s =
     let k = parted p.text (flat_map (λ p. p.text) ps) s in
     let one : Scalars (p.char ∷ []) = ⊎_elim (λ raw. raw_is p raw k.0) (λ h. escape_is p 4 8 h.1) each.0.spelled in
     scalars_join (p.char ∷ []) (map (λ p. p.char) ps) one (iri_pieces ps each.1 k.1)
 
-iri_scalars : (text value : List ℕ) → IriToken true text value → Scalars text → Scalars value
+iri_scalars : (text value : List ℕ) → IriToken Triples text value → Scalars text → Scalars value
 iri_scalars text value h s =
     let letter = h.after in
     let scheme = letter.after in
@@ -99,8 +99,8 @@ string_scalars text value h s =
     subst Scalars (sym h.after.stands) (string_groups h.quoting h.after.groups h.after.each inner)
 
 -- the terms of tokens
-iri_term : (text value : List ℕ) → IriToken true text value → Scalars text → IsSpelled (Iri value)
-iri_term text value h s = iri value (iri_scalars text value h s) (token_is true text value h)
+iri_term : (text value : List ℕ) → IriToken Triples text value → Scalars text → IsSpelled (Iri value)
+iri_term text value h s = iri value (iri_scalars text value h s) (token_is Triples text value h)
 
 label_term : (text value : List ℕ) → LabelToken text value → Scalars text → IsSpelled (Blank value)
 label_term text value h s = blank value (parted (95 ∷ 58 ∷ []) value (subst Scalars h.0 s)).1 h.1
@@ -112,7 +112,7 @@ tagged_term : (lexical text tag : List ℕ) → TagToken text tag → Scalars le
 tagged_term lexical text tag h lexical_scalars s = tagged _ tag refl refl lexical_scalars (parted (64 ∷ []) tag (subst Scalars h.0 s)).1 h.1
 
 typed_term : (lexical text datatype : List ℕ) → DatatypeToken text datatype → Scalars lexical → Scalars text → IsSpelled (typed_of lexical datatype)
-typed_term lexical text datatype h lexical_scalars s = untagged _ refl (sym h.1) lexical_scalars (iri_scalars text datatype h.0 s) (token_is true text datatype h.0)
+typed_term lexical text datatype h lexical_scalars s = untagged _ refl (sym h.1) lexical_scalars (iri_scalars text datatype h.0 s) (token_is Triples text datatype h.0)
 
 -- a text of Unicode in the rule gives a triple of terms
 abbrev Gives : (List ℕ → Statement → Type 0) → Type 0
@@ -147,19 +147,19 @@ module _ (s : Term) (p : List ℕ) (subject : IsSpelled s) (is : is_subject s �
   object : Gives (Object LineEnd s p)
   object text t h k =
       ⊎_elim
-      (λ h. then_gives (IriToken true) _ (λ own value h k. dotted _ (triple (Iri value) (iri_term own value h k))) text t h k)
+      (λ h. then_gives (IriToken Triples) _ (λ own value h k. dotted _ (triple (Iri value) (iri_term own value h k))) text t h k)
       (λ h. ⊎_elim
       (λ h. then_gives LabelToken _ (λ own value h k. dotted _ (triple (Blank value) (label_term own value h k))) text t h k)
       (λ h. then_gives (StringToken Triples) _ (λ own value h k. spaced _ (after_string value (string_scalars own value h k))) text t h k) h)
       h
 
 predicate : (s : Term) → IsSpelled s → is_subject s ≡ true → Gives (Predicate LineEnd s)
-predicate s subject is = then_gives (IriToken true) _ (λ own value h k. spaced _ (object s value subject is (iri_term own value h k)))
+predicate s subject is = then_gives (IriToken Triples) _ (λ own value h k. spaced _ (object s value subject is (iri_term own value h k)))
 
 subject : Gives (Subject LineEnd)
 subject text t h k =
     ⊎_elim
-    (λ h. then_gives (IriToken true) _ (λ own value h k. spaced _ (predicate (Iri value) (iri_term own value h k) refl)) text t h k)
+    (λ h. then_gives (IriToken Triples) _ (λ own value h k. spaced _ (predicate (Iri value) (iri_term own value h k) refl)) text t h k)
     (λ h. then_gives LabelToken _ (λ own value h k. spaced _ (predicate (Blank value) (label_term own value h k) refl)) text t h k)
     h
 

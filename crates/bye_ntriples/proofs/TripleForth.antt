@@ -1,7 +1,6 @@
 -- From a character of a triple, and what a state wants, to the next state and what it wants.
 use Rattle.std.proofs.lemmas.List.{append-nil}
 use Rattle.bye_terms.proofs.Tests.{both_parts}
-use Rattle.bye_ntriples.proofs.Readings.{same_text}
 use Rattle.bye_lex.specs.declared.string.StringAt.{StringAt}
 use Rattle.std.proofs.Common.{option_map, append_assoc, ◌≡◌, refl, ℕ, Bool, true, false, cond, ◌==◌, ◌&&◌, ◌||◌, List, [], ◌∷◌, ◌++◌, Option, Some, None, ◌⊎◌, inl, inr, ⊎_elim, drop, sym, ◌∙◌, ap, subst}
 use Rattle.bye_terms.specs.Terms.{Statement}
@@ -9,60 +8,49 @@ use Rattle.bye_terms.specs.declared.term.Term.{Term}
 use Rattle.bye_terms.specs.declared.term.Term.TheVariants.{Iri, Blank}
 use Rattle.bye_lex.specs.Iris.{IriToken}
 use Rattle.bye_lex.specs.Marks.{LabelToken, TagToken}
-use Rattle.bye_lex.specs.MarkSteps as mark
-use Rattle.bye_lex.specs.MarkSteps.{wants, is_whole}
+use Rattle.bye_lex.specs.LabelSteps as label_steps
 use Rattle.bye_lex.specs.Strings.{StringToken, StringTail, around, has_quoting}
 use Rattle.bye_lex.specs.declared.iri.IriAt.{IriAt}
 use Rattle.bye_lex.specs.declared.iri.IriAt.TheVariants as iri_at
-use Rattle.bye_lex.specs.declared.mark.MarkAt.{MarkAt}
-use Rattle.bye_lex.specs.declared.mark.MarkAt.TheVariants as marks
-use Rattle.bye_lex.specs.declared.string.Quote.TheVariants.{Double, Single}
-use Rattle.bye_lex.specs.declared.string.Quoting.{Quoting}
-use Rattle.bye_lex.specs.declared.string.Quoting.TheVariants.{Short, Long}
+use Rattle.bye_lex.specs.declared.label.LabelAt.{LabelAt}
+use Rattle.bye_lex.specs.declared.label.LabelAt.TheVariants as labels
+use Rattle.bye_lex.specs.declared.quoting.Quote.TheVariants.{Double, Single}
+use Rattle.bye_lex.specs.declared.quoting.Quoting.{Quoting}
+use Rattle.bye_lex.specs.declared.quoting.Quoting.TheVariants.{Short, Long}
 use Rattle.bye_lex.specs.declared.string.StringAt.TheVariants as string_at
 use Rattle.bye_lex.specs.declared.style.Style.TheVariants.{Triples}
-use Rattle.bye_lex.proofs.Branches.{when, unless, eqb_same, same_eqb, heads}
-use Rattle.bye_lex.proofs.MarkExact.{mark_exact}
+use Rattle.bye_lex.specs.declared.tag.TagAt.{TagAt}
+use Rattle.bye_lex.specs.declared.tag.TagAt.TheVariants as tags
+use Rattle.bye_lex.specs.TagSteps as tag_steps
+use Rattle.bye_terms.specs.Names.{is_label_rest}
+use Rattle.bye_lex.proofs.Branches.{when, unless, eqb_same, same_eqb, heads, none_some, some_same}
+use Rattle.bye_lex.proofs.Embedding.{Onward}
+use Rattle.bye_lex.proofs.LabelExact.{Left, label_exact, in_stops, dots_stop}
 use Rattle.bye_ntriples.specs.Lines.{is_space, Spaced, Then, Dot, Dotted, DatatypeToken, Datatype, Carets, Tagged, AfterSpaces}
 use Rattle.bye_ntriples.specs.Lines as lines
 use Rattle.bye_ntriples.specs.LineSteps as line
-use Rattle.bye_ntriples.specs.Running.{Marked, marks_left}
-use Rattle.bye_ntriples.specs.TokenSteps.{marked, label_start, tag_start}
 use Rattle.bye_ntriples.specs.Triples.{triple_of, string_of, tagged_of, typed_of}
 use Rattle.bye_ntriples.specs.declared.line.LineAt.{LineAt}
 use Rattle.bye_ntriples.specs.declared.line.LineAt.TheVariants.{Begin, Subject, AfterSubject, Predicate, AfterPredicate, Object, Suffix, AfterObject, Ended, Comment}
 use Rattle.bye_ntriples.specs.declared.line.SubjectAt.TheVariants as subjects
 use Rattle.bye_ntriples.specs.declared.line.ObjectAt.TheVariants as objects
 use Rattle.bye_ntriples.specs.declared.line.SuffixAt.TheVariants as suffixes
-use Rattle.bye_ntriples.proofs.LineMeaning.{WithinMark, WithinIri, WithinString, AfterSubjectIri, AfterSubjectLabel, AfterPredicateIri, AfterObjectIri, AfterObjectLabel, AfterTag, AfterDatatype, LeftTriple, Good, is_label_state, is_tag_state, is_open_string}
-use Rattle.bye_ntriples.proofs.Tokens.{Onward, begin_iri, iri_forth, decided}
+use Rattle.bye_ntriples.proofs.LineMeaning.{WithinLabel, WithinTag, WithinIri, WithinString, AfterSubjectIri, AfterSubjectLabel, AfterPredicateIri, AfterObjectIri, AfterObjectLabel, AfterTag, AfterDatatype, LeftTriple, Good, is_open_string}
+use Rattle.bye_ntriples.proofs.Tokens.{begin_iri, iri_forth, label_forth, tag_forth, decided}
 use Rattle.bye_ntriples.proofs.StringTokens.{string_forth}
-use Rattle.bye_ntriples.proofs.MarkTokens.{mark_forth}
 
 -- the first character of a token
-first_iri : {W : Type 0} (Rest : List ℕ → List ℕ → W → Type 0) (c : ℕ) (t : List ℕ) (w : W) → Then (IriToken true) Rest (c ∷ t) w → c ≡ 60
+first_iri : {W : Type 0} (Rest : List ℕ → List ℕ → W → Type 0) (c : ℕ) (t : List ℕ) (w : W) → Then (IriToken Triples) Rest (c ∷ t) w → c ≡ 60
 first_iri Rest c t w h = (heads c 60 t (h.token.rest ++ h.rest) (h.spelled ∙ ap (λ own. own ++ h.rest) h.token.spelled)).0
 
-pub begin_label : {W : Type 0} (Rest : List ℕ → List ℕ → W → Type 0) (text : List ℕ) (w : W) → Then LabelToken Rest text w → WithinMark Rest label_start text w
-begin_label Rest text w h = record {
-  own = h.own;
-  rest = h.rest;
-  is = ap (wants marks.Label) h.token.0 ∙ h.token.1;
-  after = subst (λ v. Rest v h.rest w) (sym (ap (drop 2) h.token.0)) h.after;
-  spelled = h.spelled;
-}
+pub begin_label : {W : Type 0} (Rest : List ℕ → List ℕ → W → Type 0) (text : List ℕ) (w : W) → Then LabelToken Rest text w → WithinLabel Rest labels.Start text w
+begin_label Rest text w h = record { own = h.own; value = h.value; rest = h.rest; is = h.token; after = h.after; spelled = h.spelled }
 
 first_label : {W : Type 0} (Rest : List ℕ → List ℕ → W → Type 0) (c : ℕ) (t : List ℕ) (w : W) → Then LabelToken Rest (c ∷ t) w → c ≡ 95
 first_label Rest c t w h = (heads c 95 t (58 ∷ h.value ++ h.rest) (h.spelled ∙ ap (λ own. own ++ h.rest) h.token.0)).0
 
-pub begin_tag : {W : Type 0} (Rest : List ℕ → List ℕ → W → Type 0) (text : List ℕ) (w : W) → Then TagToken Rest text w → WithinMark Rest tag_start text w
-begin_tag Rest text w h = record {
-  own = h.own;
-  rest = h.rest;
-  is = ap (wants marks.Tag) h.token.0 ∙ h.token.1;
-  after = subst (λ v. Rest v h.rest w) (sym (ap (drop 1) h.token.0)) h.after;
-  spelled = h.spelled;
-}
+pub begin_tag : {W : Type 0} (Rest : List ℕ → List ℕ → W → Type 0) (text : List ℕ) (w : W) → Then TagToken Rest text w → WithinTag Rest tags.Start text w
+begin_tag Rest text w h = record { own = h.own; value = h.value; rest = h.rest; is = h.token; after = h.after; spelled = h.spelled }
 
 first_tag : {W : Type 0} (Rest : List ℕ → List ℕ → W → Type 0) (c : ℕ) (t : List ℕ) (w : W) → Then TagToken Rest (c ∷ t) w → c ≡ 64
 first_tag Rest c t w h = (heads c 64 t (h.value ++ h.rest) (h.spelled ∙ ap (λ own. own ++ h.rest) h.token.0)).0
@@ -107,65 +95,33 @@ space_is c e = ⊎_elim (λ b. inl (eqb_same c 32 b)) (λ b. inr (eqb_same c 9 (
     or_first true b e = cc
     or_first false b e = refl
 
--- no whole label or tag goes on with a space or a bracket
-at_space : (m : MarkAt) → is_whole m ≡ true → (mark.step m 32 ≡ None) × ((mark.step m 9 ≡ None) × (mark.step m 60 ≡ None))
-at_space marks.Name e = (refl, (refl, refl))
-at_space marks.InName e = (refl, (refl, refl))
-at_space marks.Label e = (refl, (refl, refl))
-at_space marks.Underscore e = (refl, (refl, refl))
-at_space marks.Colon e = (refl, (refl, refl))
-at_space marks.InLabel e = (refl, (refl, refl))
-at_space marks.Dotted e = (refl, (refl, refl))
-at_space marks.Tag e = (refl, (refl, refl))
-at_space marks.Sign e = (refl, (refl, refl))
-at_space marks.Letters e = (refl, (refl, refl))
-at_space marks.Hyphen e = (refl, (refl, refl))
-at_space marks.Subtag e = (refl, (refl, refl))
+-- no label goes on with a space
+spaced_off : (c : ℕ) → is_space c ≡ true → label_steps.goes_on c ≡ false
+spaced_off c e = ⊎_elim (λ k. ap label_steps.goes_on k) (λ k. ap label_steps.goes_on k) (space_is c e)
 
-stops_at : (m : MarkAt) (c d : ℕ) → c ≡ d → mark.step m d ≡ None → mark.step m c ≡ None
-stops_at m c d e f = ap (mark.step m) e ∙ f
+-- a whole label stops where it does not go on
+label_stops : (s : LabelAt) (v : List ℕ) (c : ℕ) → label_steps.final s ≡ Some v → label_steps.goes_on c ≡ false → label_steps.step s c ≡ None
+label_stops labels.Start v c e f = none_some e
+label_stops labels.Underscore v c e f = none_some e
+label_stops labels.Colon v c e f = none_some e
+label_stops (labels.In label) v c e f = in_stops label c f
+label_stops (labels.Dotted label dots) v c e f = none_some e
 
-spaced_apart : (m : MarkAt) (c : ℕ) → is_whole m ≡ true → is_space c ≡ true → mark.step m c ≡ None
-spaced_apart m c w e = ⊎_elim (λ k. stops_at m c 32 k (at_space m w).0) (λ k. stops_at m c 9 k (at_space m w).1.0) (space_is c e)
+-- no whole tag goes on with a space or a dot
+tag_stops : (s : TagAt) (v : List ℕ) → tag_steps.final s ≡ Some v → (tag_steps.step s 32 ≡ None) × ((tag_steps.step s 9 ≡ None) × (tag_steps.step s 46 ≡ None))
+tag_stops tags.Start v e = none_some e
+tag_stops tags.Sign v e = none_some e
+tag_stops (tags.Letters tag) v e = (refl, (refl, refl))
+tag_stops (tags.Hyphen tag) v e = none_some e
+tag_stops (tags.Subtag tag) v e = (refl, (refl, refl))
 
--- a whole tag does not go on with a dot
-tag_stops : (m : MarkAt) → is_tag_state m ≡ true → mark.step m 46 ≡ None
-tag_stops marks.Name e = cc
-tag_stops marks.InName e = cc
-tag_stops marks.Label e = cc
-tag_stops marks.Underscore e = cc
-tag_stops marks.Colon e = cc
-tag_stops marks.InLabel e = cc
-tag_stops marks.Dotted e = cc
-tag_stops marks.Tag e = refl
-tag_stops marks.Sign e = refl
-tag_stops marks.Letters e = refl
-tag_stops marks.Hyphen e = refl
-tag_stops marks.Subtag e = refl
-
--- a whole label is at its last character
-pub whole_label : (m : MarkAt) → is_label_state m ≡ true → is_whole m ≡ true → m ≡ marks.InLabel
-whole_label marks.Name e w = cc
-whole_label marks.InName e w = cc
-whole_label marks.Label e w = cc
-whole_label marks.Underscore e w = cc
-whole_label marks.Colon e w = cc
-whole_label marks.InLabel e w = refl
-whole_label marks.Dotted e w = cc
-whole_label marks.Tag e w = cc
-whole_label marks.Sign e w = cc
-whole_label marks.Letters e w = cc
-whole_label marks.Hyphen e w = cc
-whole_label marks.Subtag e w = cc
+tag_spaced : (s : TagAt) (v : List ℕ) (c : ℕ) → tag_steps.final s ≡ Some v → is_space c ≡ true → tag_steps.step s c ≡ None
+tag_spaced s v c e f = ⊎_elim (λ k. ap (tag_steps.step s) k ∙ (tag_stops s v e).0) (λ k. ap (tag_steps.step s) k ∙ (tag_stops s v e).1.0) (space_is c f)
 
 -- What may stand after the dot of a triple: it leads on from there, and does not go on in a label.
 pub record Endings (End : List ℕ → Type 0) : Type 0 where
   pub forth : (stated : Statement) (c : ℕ) (t : List ℕ) → End (c ∷ t) → Onward (LeftTriple End) (line.ended stated c) t stated
-  pub apart : (c : ℕ) (t : List ℕ) → End (c ∷ t) → mark.step marks.Dotted c ≡ None
-
-no_dot : (a b : Bool) → a ≡ true → (a && b) ≡ false → b ≡ false
-no_dot true b e f = f
-no_dot false b e f = cc
+  pub apart : (c : ℕ) (t : List ℕ) → End (c ∷ t) → label_steps.goes_on c ≡ false
 
 -- before the dot that ends the triple, or at a dot that may belong to a label
 abbrev pub is_before_end : LineAt → Bool
@@ -205,14 +161,14 @@ module _ (End : List ℕ → Type 0) where
   in_subject : (at : IriAt) (c : ℕ) (t : List ℕ) (v : Statement) → WithinIri (AfterSubjectIri End) at (c ∷ t) v → Next (line.in_subject at c) t v
   in_subject at c t v h = iri_forth (LeftTriple End) (AfterSubjectIri End) (λ n. Subject (subjects.Iri n)) (λ s. Some (AfterSubject (Iri s))) at c t v (λ n k. k) (λ s k. (AfterSubject (Iri s), refl, k)) h
 
-  subject_apart : (m : MarkAt) (s : List ℕ) (c : ℕ) (t : List ℕ) (v : Statement) → is_whole m ≡ true → AfterSubjectLabel End s (c ∷ t) v → mark.step m c ≡ None
-  subject_apart m s c t v w (inl k) = spaced_apart m c w k.0
-  subject_apart m s c t v w (inr k) = stops_at m c 60 (first_iri (AfterPredicateIri End (Blank s)) c t v k) (at_space m w).1.1
+  subject_apart : (q : LabelAt) (s : List ℕ) (c : ℕ) (t : List ℕ) (v : Statement) → label_steps.final q ≡ Some s → AfterSubjectLabel End s (c ∷ t) v → label_steps.step q c ≡ None
+  subject_apart q s c t v w (inl k) = label_stops q s c w (spaced_off c k.0)
+  subject_apart q s c t v w (inr k) = label_stops q s c w (ap label_steps.goes_on (first_iri (AfterPredicateIri End (Blank s)) c t v k))
 
-  in_subject_label : (m : Marked) (c : ℕ) (t : List ℕ) (v : Statement) → WithinMark (AfterSubjectLabel End) m (c ∷ t) v → Next (line.in_subject_label m c) t v
-  in_subject_label m c t v h =
-      mark_forth (LeftTriple End) (AfterSubjectLabel End) (λ n. Subject (subjects.Label n)) (λ s c. line.after_subject (Blank s) c) m c t v (λ n k. k) (λ s k. after_subject (Blank s) c t v k)
-      (λ s b k. subject_apart m.at s c t v b k) h
+  in_subject_label : (q : LabelAt) (c : ℕ) (t : List ℕ) (v : Statement) → WithinLabel (AfterSubjectLabel End) q (c ∷ t) v → Next (line.in_subject_label q c) t v
+  in_subject_label q c t v h =
+      label_forth (LeftTriple End) (AfterSubjectLabel End) (λ n. Subject (subjects.Label n)) (λ s c. line.after_subject (Blank s) c) q c t v (λ n k. k) (λ s k. after_subject (Blank s) c t v k)
+      (λ s b k. subject_apart q s c t v b k) h
 
   abbrev AtSubject : ℕ → List ℕ → Statement → Type 0
   AtSubject c t v = ((is_space c ≡ false) × ((c == 35) ≡ false)) × Next (line.subject c) t v
@@ -224,7 +180,7 @@ module _ (End : List ℕ → Type 0) where
       ((no_space c 60 e refl, not_this c 60 35 e refl), (n.0, when _ _ _ (same_eqb c 60 e) ∙ n.1, n.2))
   subject c t v (inr k) =
       let e = first_label (AfterSubjectLabel End) c t v k in
-      let n = in_subject_label label_start c t v (begin_label (AfterSubjectLabel End) (c ∷ t) v k) in
+      let n = in_subject_label labels.Start c t v (begin_label (AfterSubjectLabel End) (c ∷ t) v k) in
       ((no_space c 95 e refl, not_this c 95 35 e refl), (n.0, unless _ _ _ _ (not_this c 95 60 e refl) refl ∙ n.1, n.2))
 
   begin : (c : ℕ) (t : List ℕ) (v : Statement) → lines.Triple End (c ∷ t) v → Next (line.begin c) t v
@@ -237,64 +193,59 @@ module _ (End : List ℕ → Type 0) where
   in_object s p at c t v h = iri_forth (LeftTriple End) (AfterObjectIri End s p) (λ n. Object s p (objects.Iri n)) (λ o. Some (AfterObject (triple_of s p (Iri o)))) at c t v (λ n k. k) (λ o k. (AfterObject (triple_of s p (Iri o)), refl, k)) h
 
   -- after a whole label of an object stands a space or a dot
-  object_apart : (m : MarkAt) (s : Term) (p o : List ℕ) (c : ℕ) (t : List ℕ) (v : Statement) → (c == 46) ≡ false → is_whole m ≡ true → AfterObjectLabel End s p o (c ∷ t) v → mark.step m c ≡ None
-  object_apart m s p o c t v f w (inl k) = spaced_apart m c w k.0
-  object_apart m s p o c t v f w (inr k) = let e = sym (same_eqb c 46 (dot_is (triple_of s p (Blank o)) c t v k).0) ∙ f in cc
+  object_apart : (q : LabelAt) (s : Term) (p o : List ℕ) (c : ℕ) (t : List ℕ) (v : Statement) → (c == 46) ≡ false → label_steps.final q ≡ Some o → AfterObjectLabel End s p o (c ∷ t) v → label_steps.step q c ≡ None
+  object_apart q s p o c t v f w (inl k) = label_stops q o c w (spaced_off c k.0)
+  object_apart q s p o c t v f w (inr k) = let e = sym (same_eqb c 46 (dot_is (triple_of s p (Blank o)) c t v k).0) ∙ f in cc
 
-  label_goes : (s : Term) (p : List ℕ) (m : Marked) (c : ℕ) (t : List ℕ) (v : Statement) → (is_whole m.at && c == 46) ≡ false → WithinMark (AfterObjectLabel End s p) m (c ∷ t) v → Next (line.in_mark (λ n. Object s p (objects.Label n)) (λ o c. line.after_object (triple_of s p (Blank o)) c) m c) t v
-  label_goes s p m c t v f h =
-      mark_forth (LeftTriple End) (AfterObjectLabel End s p) (λ n. Object s p (objects.Label n)) (λ o c. line.after_object (triple_of s p (Blank o)) c) m c t v (λ n k. k) (λ o k. after_object (triple_of s p (Blank o)) c t v k)
-      (λ o b k. object_apart m.at s p o c t v (no_dot (is_whole m.at) (c == 46) b f) b k) h
+  label_goes : (s : Term) (p : List ℕ) (q : LabelAt) (c : ℕ) (t : List ℕ) (v : Statement) → ((o : List ℕ) → label_steps.final q ≡ Some o → (c == 46) ≡ false) → WithinLabel (AfterObjectLabel End s p) q (c ∷ t) v → Next (line.go_on_in_label s p q c) t v
+  label_goes s p q c t v f h =
+      label_forth (LeftTriple End) (AfterObjectLabel End s p) (λ n. Object s p (objects.Label n)) (λ o c. line.after_object (triple_of s p (Blank o)) c) q c t v (λ n k. k) (λ o k. after_object (triple_of s p (Blank o)) c t v k)
+      (λ o b k. object_apart q s p o c t v (f o b) b k) h
 
-  in_object_label : (s : Term) (p : List ℕ) (m : Marked) (c : ℕ) (t : List ℕ) (v : Statement) → is_label_state m.at ≡ true → WithinMark (AfterObjectLabel End s p) m (c ∷ t) v → Next (line.in_object_label s p m c) t v
-  in_object_label s p m c t v g h =
+  in_object_label : (s : Term) (p : List ℕ) (q : LabelAt) (c : ℕ) (t : List ℕ) (v : Statement) → WithinLabel (AfterObjectLabel End s p) q (c ∷ t) v → Next (line.in_object_label s p q c) t v
+  in_object_label s p labels.Start c t v h = label_goes s p labels.Start c t v (λ o e. none_some e) h
+  in_object_label s p labels.Underscore c t v h = label_goes s p labels.Underscore c t v (λ o e. none_some e) h
+  in_object_label s p labels.Colon c t v h = label_goes s p labels.Colon c t v (λ o e. none_some e) h
+  in_object_label s p (labels.In label) c t v h =
       ⊎_elim
-      (λ (b : (is_whole m.at && c == 46) ≡ true).
-      let k = both_parts (is_whole m.at) (c == 46) b in
-      let at = whole_label m.at g k.0 in
-      let same : m ≡ record { at = marks.InLabel; text = m.text } = λ i. record { at = at i; text = m.text } in
-      let h1 : WithinMark (AfterObjectLabel End s p) m (46 ∷ t) v = subst (λ c. WithinMark (AfterObjectLabel End s p) m (c ∷ t) v) (eqb_same c 46 k.1) h in
-      let r : Next (line.in_object_label s p m c) t v = (Object s p (objects.Dot m.text), when _ _ _ b, subst (λ m. WithinMark (AfterObjectLabel End s p) m (46 ∷ t) v) same h1) in r)
-      (λ (b : (is_whole m.at && c == 46) ≡ false).
-      let n = label_goes s p m c t v b h in
-      let r : Next (line.in_object_label s p m c) t v = (n.0, unless _ _ _ _ b refl ∙ n.1, n.2) in r)
-      (decided (is_whole m.at && c == 46))
+      (λ (b : (c == 46) ≡ true).
+      let r : Next (line.in_object_label s p (labels.In label) c) t v = (Object s p (objects.Dot label), when _ _ _ b, subst (λ c. WithinLabel (AfterObjectLabel End s p) (labels.In label) (c ∷ t) v) (eqb_same c 46 b) h) in r)
+      (λ (b : (c == 46) ≡ false).
+      let n = label_goes s p (labels.In label) c t v (λ o e. b) h in
+      let r : Next (line.in_object_label s p (labels.In label) c) t v = (n.0, unless _ _ _ _ b refl ∙ n.1, n.2) in r)
+      (decided (c == 46))
+  in_object_label s p (labels.Dotted label dots) c t v h = label_goes s p (labels.Dotted label dots) c t v (λ o e. none_some e) h
 
   -- after a label and a dot
-  dot_own : Endings End → (s : Term) (p label : List ℕ) (c : ℕ) (t own rest : List ℕ) (v : Statement) → wants marks.InLabel own ≡ true → AfterObjectLabel End s p (label ++ own) rest v → 46 ∷ c ∷ t ≡ own ++ rest → Next (line.after_dot s p label c) t v
-  dot_own x s p label c t [] rest v w k e =
+  dot_own : Endings End → (s : Term) (p label : List ℕ) (c : ℕ) (t own value rest : List ℕ) (v : Statement) → Left (labels.In label) own value → AfterObjectLabel End s p value rest v → 46 ∷ c ∷ t ≡ own ++ rest → Next (line.after_dot s p label c) t v
+  dot_own x s p label c t [] value rest v w k e =
       let stated = triple_of s p (Blank label) in
-      let k1 : AfterObjectLabel End s p label (46 ∷ c ∷ t) v = subst (λ l. AfterObjectLabel End s p l (46 ∷ c ∷ t) v) (append-nil label) (subst (λ r. AfterObjectLabel End s p (label ++ []) r v) (sym e) k) in
+      let same : value ≡ label = w.0 ∙ append-nil label in
+      let k1 : AfterObjectLabel End s p label (46 ∷ c ∷ t) v = subst (λ l. AfterObjectLabel End s p l (46 ∷ c ∷ t) v) same (subst (λ r. AfterObjectLabel End s p value r v) (sym e) k) in
       ⊎_elim
       (λ (d : (is_space 46 ≡ true) × Dotted End stated (c ∷ t) v). let z = d.0 in let r : Next (line.after_dot s p label c) t v = cc in r)
       (λ (d : Dot End stated (46 ∷ c ∷ t) v).
       let q = dot_is stated 46 (c ∷ t) v d in
       let n = x.forth stated c t q.1.0 in
-      let stops = x.apart c t q.1.0 in
-      let r : Next (line.after_dot s p label c) t v = (
-        n.0,
-        ap (λ o. line.settle_dot s p label c (option_map (marked (record { at = marks.Dotted; text = label ++ 46 ∷ [] }) c) o)) stops ∙ n.1,
-        subst (λ v. LeftTriple End n.0 t v) (sym q.1.1) n.2,
-      ) in r)
+      let stops = dots_stop label (46 ∷ []) c (x.apart c t q.1.0) in
+      let r : Next (line.after_dot s p label c) t v = (n.0, ap (λ o. line.settle_dot s p label c o) stops ∙ n.1, subst (λ v. LeftTriple End n.0 t v) (sym q.1.1) n.2) in r)
       k1
-  dot_own x s p label c t (d ∷ []) rest v w k e =
-      let h = heads 46 d (c ∷ t) rest e in
-      let z : wants marks.InLabel (46 ∷ []) ≡ true = subst (λ d. wants marks.InLabel (d ∷ []) ≡ true) (sym h.0) w in cc
-  dot_own x s p label c t (d ∷ b ∷ own) rest v w k e =
+  dot_own x s p label c t (d ∷ []) value rest v w k e =
+      let z : is_label_rest false (46 ∷ []) ≡ true = subst (λ d. is_label_rest false (d ∷ []) ≡ true) (sym (heads 46 d (c ∷ t) rest e).0) w.1 in cc
+  dot_own x s p label c t (d ∷ b ∷ own) value rest v w k e =
       let h = heads 46 d (c ∷ t) (b ∷ own ++ rest) e in
       let g = heads c b t (own ++ rest) h.1 in
-      let w1 : wants marks.InLabel (46 ∷ c ∷ own) ≡ true = subst (λ b. wants marks.InLabel (46 ∷ b ∷ own) ≡ true) (sym g.0) (subst (λ d. wants marks.InLabel (d ∷ b ∷ own) ≡ true) (sym h.0) w) in
-      let k1 : AfterObjectLabel End s p (label ++ 46 ∷ c ∷ own) rest v = subst (λ b. AfterObjectLabel End s p (label ++ 46 ∷ b ∷ own) rest v) (sym g.0) (subst (λ d. AfterObjectLabel End s p (label ++ d ∷ b ∷ own) rest v) (sym h.0) k) in
-      let n = mark_exact.forth marks.Dotted c own tt w1 in
-      let m : Marked = record { at = marks.Dotted; text = label ++ 46 ∷ [] } in
-      let text : (marked m c n.0).text ++ drop (marks_left n.0) own ≡ label ++ 46 ∷ c ∷ own = same_text marks.Dotted n.0 (label ++ 46 ∷ []) c own n.1 ∙ append_assoc label (46 ∷ []) (c ∷ own) in (
-        Object s p (objects.Label (marked m c n.0)),
-        ap (λ o. line.settle_dot s p label c (option_map (marked m c) o)) n.1,
-        record { own = own; rest = rest; is = n.2; after = subst (λ l. AfterObjectLabel End s p l rest v) (sym text) k1; spelled = g.1 },
+      let w1 : Left (labels.In label) (46 ∷ c ∷ own) value = subst (λ b. Left (labels.In label) (46 ∷ b ∷ own) value) (sym g.0) (subst (λ d. Left (labels.In label) (d ∷ b ∷ own) value) (sym h.0) w) in
+      let one = label_exact.forth (labels.In label) 46 (c ∷ own) value w1 in
+      let dotted : Left (labels.Dotted label (46 ∷ [])) (c ∷ own) value = subst (λ n. Left n (c ∷ own) value) (sym (some_same one.1)) one.2 in
+      let n = label_exact.forth (labels.Dotted label (46 ∷ [])) c own value dotted in (
+        Object s p (objects.Label n.0),
+        ap (λ o. line.settle_dot s p label c o) n.1,
+        record { own = own; value = value; rest = rest; is = n.2; after = k; spelled = g.1 },
       )
 
-  after_dot : Endings End → (s : Term) (p label : List ℕ) (c : ℕ) (t : List ℕ) (v : Statement) → WithinMark (AfterObjectLabel End s p) (record { at = marks.InLabel; text = label }) (46 ∷ c ∷ t) v → Next (line.after_dot s p label c) t v
-  after_dot x s p label c t v h = dot_own x s p label c t h.own h.rest v h.is h.after h.spelled
+  after_dot : Endings End → (s : Term) (p label : List ℕ) (c : ℕ) (t : List ℕ) (v : Statement) → WithinLabel (AfterObjectLabel End s p) (labels.In label) (46 ∷ c ∷ t) v → Next (line.after_dot s p label c) t v
+  after_dot x s p label c t v h = dot_own x s p label c t h.own h.value h.rest v h.is h.after h.spelled
 
   in_object_string : (s : Term) (p : List ℕ) (at : StringAt) (c : ℕ) (t : List ℕ) (v : Statement) → is_open_string at ≡ true → WithinString (λ lexical. lines.Suffix End s p lexical) at (c ∷ t) v → Next (line.in_object_string s p at c) t v
   in_object_string s p at c t v g h =
@@ -310,7 +261,7 @@ module _ (End : List ℕ → Type 0) where
       (no_space c 60 e refl, (n.0, when _ _ _ (same_eqb c 60 e) ∙ n.1, n.2))
   object s p c t v (inr (inl k)) =
       let e = first_label (AfterObjectLabel End s p) c t v k in
-      let n = in_object_label s p label_start c t v refl (begin_label (AfterObjectLabel End s p) (c ∷ t) v k) in
+      let n = in_object_label s p labels.Start c t v (begin_label (AfterObjectLabel End s p) (c ∷ t) v k) in
       (no_space c 95 e refl, (n.0, unless _ _ _ _ (not_this c 95 60 e refl) (unless _ _ _ _ (not_this c 95 34 e refl) refl) ∙ n.1, n.2))
   object s p c t v (inr (inr k)) =
       let e = string_first (λ lexical. lines.Suffix End s p lexical) c t v k in
@@ -320,18 +271,18 @@ module _ (End : List ℕ → Type 0) where
   after_predicate : (s : Term) (p : List ℕ) (c : ℕ) (t : List ℕ) (v : Statement) → Spaced (lines.Object End s p) (c ∷ t) v → Next (line.after_predicate s p c) t v
   after_predicate s p c t v h = spaced_forth (LeftTriple End) (lines.Object End s p) (AfterPredicate s p) _ c t v (λ k. k) (λ k. object s p c t v k) h
 
-  tag_apart : (m : MarkAt) (stated : Statement) (c : ℕ) (t : List ℕ) (v : Statement) → is_tag_state m ≡ true → is_whole m ≡ true → Dotted End stated (c ∷ t) v → mark.step m c ≡ None
-  tag_apart m stated c t v g w (inl k) = spaced_apart m c w k.0
-  tag_apart m stated c t v g w (inr k) = stops_at m c 46 (dot_is stated c t v k).0 (tag_stops m g)
+  tag_apart : (q : TagAt) (tag : List ℕ) (stated : Statement) (c : ℕ) (t : List ℕ) (v : Statement) → tag_steps.final q ≡ Some tag → Dotted End stated (c ∷ t) v → tag_steps.step q c ≡ None
+  tag_apart q tag stated c t v w (inl k) = tag_spaced q tag c w k.0
+  tag_apart q tag stated c t v w (inr k) = ap (tag_steps.step q) (dot_is stated c t v k).0 ∙ (tag_stops q tag w).1.1
 
-  in_tag : (s : Term) (p lexical : List ℕ) (m : Marked) (c : ℕ) (t : List ℕ) (v : Statement) → is_tag_state m.at ≡ true → WithinMark (AfterTag End s p lexical) m (c ∷ t) v → Next (line.in_tag s p lexical m c) t v
-  in_tag s p lexical m c t v g h =
-      mark_forth (LeftTriple End) (AfterTag End s p lexical) (λ n. Suffix s p lexical (suffixes.Tag n)) (λ tag c. line.after_object (triple_of s p (tagged_of lexical tag)) c) m c t v (λ n k. k) (λ tag k. after_object (triple_of s p (tagged_of lexical tag)) c t v k)
-      (λ tag b k. tag_apart m.at (triple_of s p (tagged_of lexical tag)) c t v g b k) h
+  in_tag : (s : Term) (p lexical : List ℕ) (q : TagAt) (c : ℕ) (t : List ℕ) (v : Statement) → WithinTag (AfterTag End s p lexical) q (c ∷ t) v → Next (line.in_tag s p lexical q c) t v
+  in_tag s p lexical q c t v h =
+      tag_forth (LeftTriple End) (AfterTag End s p lexical) (λ n. Suffix s p lexical (suffixes.Tag n)) (λ tag c. line.after_object (triple_of s p (tagged_of lexical tag)) c) q c t v (λ n k. k) (λ tag k. after_object (triple_of s p (tagged_of lexical tag)) c t v k)
+      (λ tag b k. tag_apart q tag (triple_of s p (tagged_of lexical tag)) c t v b k) h
 
   abbrev AtSuffix : Term → List ℕ → List ℕ → ℕ → List ℕ → Statement → Type 0
   AtSuffix s p lexical c t v =
-      (is_space c ≡ false) × Next (cond (c == 46) (Some (Ended (triple_of s p (string_of lexical)))) (cond (c == 94) (Some (Suffix s p lexical suffixes.Caret)) (line.in_tag s p lexical tag_start c))) t v
+      (is_space c ≡ false) × Next (cond (c == 46) (Some (Ended (triple_of s p (string_of lexical)))) (cond (c == 94) (Some (Suffix s p lexical suffixes.Caret)) (line.in_tag s p lexical tags.Start c))) t v
 
   at_suffix : (s : Term) (p lexical : List ℕ) (c : ℕ) (t : List ℕ) (v : Statement) → AfterSpaces End s p lexical (c ∷ t) v → AtSuffix s p lexical c t v
   at_suffix s p lexical c t v (inl k) =
@@ -339,7 +290,7 @@ module _ (End : List ℕ → Type 0) where
       (no_space c 46 d.0 refl, (Ended (triple_of s p (string_of lexical)), when _ _ _ (same_eqb c 46 d.0), d.1))
   at_suffix s p lexical c t v (inr (inl k)) =
       let e = first_tag (AfterTag End s p lexical) c t v k in
-      let n = in_tag s p lexical tag_start c t v refl (begin_tag (AfterTag End s p lexical) (c ∷ t) v k) in
+      let n = in_tag s p lexical tags.Start c t v (begin_tag (AfterTag End s p lexical) (c ∷ t) v k) in
       (no_space c 64 e refl, (n.0, unless _ _ _ _ (not_this c 64 46 e refl) (unless _ _ _ _ (not_this c 64 94 e refl) refl) ∙ n.1, n.2))
   at_suffix s p lexical c t v (inr (inr k)) =
       let h = heads c 94 t (94 ∷ k.rest) k.spelled in
@@ -363,7 +314,7 @@ module _ (End : List ℕ → Type 0) where
   abbrev TypedRest : Term → List ℕ → List ℕ → List ℕ → List ℕ → Statement → Type 0
   TypedRest s p lexical datatype = Dotted End (triple_of s p (typed_of lexical datatype))
 
-  begin_datatype : (s : Term) (p lexical text : List ℕ) (v : Statement) → Then DatatypeToken (TypedRest s p lexical) text v → Then (IriToken true) (AfterDatatype End s p lexical) text v
+  begin_datatype : (s : Term) (p lexical text : List ℕ) (v : Statement) → Then DatatypeToken (TypedRest s p lexical) text v → Then (IriToken Triples) (AfterDatatype End s p lexical) text v
   begin_datatype s p lexical text v h = record { own = h.own; value = h.value; rest = h.rest; token = h.token.0; after = (h.token.1, h.after); spelled = h.spelled }
 
   after_carets : (s : Term) (p lexical : List ℕ) (c : ℕ) (t : List ℕ) (v : Statement) → Datatype End s p lexical (c ∷ t) v → Next (line.after_carets s p lexical c) t v
@@ -377,16 +328,16 @@ module _ (End : List ℕ → Type 0) where
   pub triple_forth : Endings End → (s : LineAt) (c : ℕ) (t : List ℕ) (v : Statement) → Good s → is_before_end s ≡ true → LeftTriple End s (c ∷ t) v → Next (line.step s c) t v
   triple_forth x Begin c t v g b h = begin c t v h
   triple_forth x (Subject (subjects.Iri at)) c t v g b h = in_subject at c t v h
-  triple_forth x (Subject (subjects.Label m)) c t v g b h = in_subject_label m c t v h
+  triple_forth x (Subject (subjects.Label q)) c t v g b h = in_subject_label q c t v h
   triple_forth x (AfterSubject s) c t v g b h = after_subject s c t v h
   triple_forth x (Predicate s at) c t v g b h = in_predicate s at c t v h
   triple_forth x (AfterPredicate s p) c t v g b h = after_predicate s p c t v h
   triple_forth x (Object s p (objects.Iri at)) c t v g b h = in_object s p at c t v h
-  triple_forth x (Object s p (objects.Label m)) c t v g b h = in_object_label s p m c t v g h
+  triple_forth x (Object s p (objects.Label q)) c t v g b h = in_object_label s p q c t v h
   triple_forth x (Object s p (objects.Dot label)) c t v g b h = after_dot x s p label c t v h
   triple_forth x (Object s p (objects.String at)) c t v g b h = in_object_string s p at c t v g.going h
   triple_forth x (Suffix s p lexical suffixes.Start) c t v g b h = after_string s p lexical c t v h
-  triple_forth x (Suffix s p lexical (suffixes.Tag m)) c t v g b h = in_tag s p lexical m c t v g h
+  triple_forth x (Suffix s p lexical (suffixes.Tag q)) c t v g b h = in_tag s p lexical q c t v h
   triple_forth x (Suffix s p lexical suffixes.Caret) c t v g b h = caret s p lexical c t v h
   triple_forth x (Suffix s p lexical suffixes.Carets) c t v g b h = after_carets s p lexical c t v h
   triple_forth x (Suffix s p lexical (suffixes.Datatype at)) c t v g b h = in_datatype s p lexical at c t v h

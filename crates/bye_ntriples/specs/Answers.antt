@@ -3,7 +3,8 @@ use Rattle.std.specs.Prelude.{◌≡◌, ◌<◌, ◌≤◌, ℕ, true, List, []
 use Rattle.std.specs.Str.{encode_utf8_all, all_scalars}
 use Rattle.bye_terms.specs.Terms.{Statement}
 use Rattle.bye_lex.specs.Languages.{Viable}
-use Rattle.bye_lex.specs.Utf8.{BeginsCharacter, NoCharacter}
+use Rattle.bye_lex.specs.Stopping.{StopsAt, StopsAtEnd, LeavesOver}
+use Rattle.bye_lex.specs.Utf8.{BeginsCharacter}
 use Rattle.bye_ntriples.specs.Lines.{is_line_end, Triple}
 use Rattle.bye_ntriples.specs.Documents.{NtText, NtDoc}
 use Rattle.bye_ntriples.specs.declared.fault.NtErr.{NtErr}
@@ -12,37 +13,6 @@ use Rattle.bye_ntriples.specs.declared.fault.NtErr.TheVariants as faults
 -- the greatest number of triples of a document, repeats counted
 unfoldable pub triple_limit : ℕ
 triple_limit = 1048576
-
--- the text of whole characters at the front of the bytes can go on to a document, and with the next character it cannot
-pub record StopsAt (bytes : List ℕ) (place : ℕ) : Type 0 where
-  pub front : List ℕ
-  pub next : ℕ
-  pub rest : List ℕ
-  pub parts : bytes ≡ encode_utf8_all (front ++ next ∷ []) ++ rest
-  pub scalars : all_scalars (front ++ next ∷ []) ≡ true
-  pub before : Viable NtText front
-  pub after : Viable NtText (front ++ next ∷ []) → ⊥
-  pub at : place ≡ length (encode_utf8_all front)
-
--- the text can go on to a document, and is none
-pub record StopsAtEnd (bytes : List ℕ) (place : ℕ) : Type 0 where
-  pub text : List ℕ
-  pub scalars : all_scalars text ≡ true
-  pub encoded : bytes ≡ encode_utf8_all text
-  pub viable : Viable NtText text
-  pub none : (triples : List Statement) → NtText text triples → ⊥
-  pub at : place ≡ length bytes
-
--- the characters at the front can go on to a document, and what is left over after them is no character
-pub record LeavesOver (bytes : List ℕ) (place : ℕ) : Type 0 where
-  pub front : List ℕ
-  pub left : List ℕ
-  pub parts : bytes ≡ encode_utf8_all front ++ left
-  pub scalars : all_scalars front ≡ true
-  pub viable : Viable NtText front
-  pub some : 0 < length left
-  pub none : NoCharacter left
-  pub at : place ≡ length (encode_utf8_all front)
 
 -- a triple with what stands before it on its line, up to its dot
 abbrev pub UpToDot : List ℕ → Statement → Type 0
@@ -90,10 +60,10 @@ abbrev pub HasPassed : List ℕ → Type 0
 HasPassed bytes = PassesWhere MayGoOn bytes
 
 abbrev pub IsSyntax : List ℕ → ℕ → Type 0
-IsSyntax bytes place = (StopsAt bytes place ⊎ StopsAtEnd bytes place) × (Passes bytes → ⊥)
+IsSyntax bytes place = (StopsAt NtText bytes place ⊎ StopsAtEnd NtText bytes place) × (Passes bytes → ⊥)
 
 abbrev pub IsNotUtf8 : List ℕ → ℕ → Type 0
-IsNotUtf8 bytes place = LeavesOver bytes place × (Passes bytes → ⊥)
+IsNotUtf8 bytes place = LeavesOver NtText bytes place × (Passes bytes → ⊥)
 
 -- the bytes are a document with these triples, which are not too many
 pub record IsGraph (bytes : List ℕ) (triples : List Statement) : Type 0 where

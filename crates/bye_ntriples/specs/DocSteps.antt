@@ -2,8 +2,8 @@
 use Rattle.std.specs.Prelude.{◌≡◌, ℕ, ◌+◌, Bool, true, false, cond, nat_lt, List, [], ◌∷◌, ◌++◌, length, Option, Some, None, option_map, option_to_list, ⊤, ◌⊎◌}
 use Rattle.std.specs.Str.{encode_utf8_all}
 use Rattle.bye_terms.specs.Terms.{Statement}
-use Rattle.bye_lex.specs.declared.mark.MarkAt.{MarkAt}
-use Rattle.bye_lex.specs.declared.mark.MarkAt.TheVariants as marks
+use Rattle.bye_lex.specs.declared.label.LabelAt.{LabelAt}
+use Rattle.bye_lex.specs.declared.label.LabelAt.TheVariants as labels
 use Rattle.bye_ntriples.specs.Answers.{triple_limit}
 use Rattle.bye_ntriples.specs.Lines.{is_line_end}
 use Rattle.bye_ntriples.specs.LineSteps as line
@@ -55,23 +55,16 @@ held (Comment None) = 0
 held (Comment (Some stated)) = 1
 
 -- and once it is sure that a dot within a label is none of it
-abbrev pub mark_pending : MarkAt → ℕ
-mark_pending marks.Name = 0
-mark_pending marks.InName = 0
-mark_pending marks.Label = 0
-mark_pending marks.Underscore = 0
-mark_pending marks.Colon = 0
-mark_pending marks.InLabel = 0
-mark_pending marks.Dotted = 1
-mark_pending marks.Tag = 0
-mark_pending marks.Sign = 0
-mark_pending marks.Letters = 0
-mark_pending marks.Hyphen = 0
-mark_pending marks.Subtag = 0
+abbrev pub label_pending : LabelAt → ℕ
+label_pending labels.Start = 0
+label_pending labels.Underscore = 0
+label_pending labels.Colon = 0
+label_pending (labels.In label) = 0
+label_pending (labels.Dotted label dots) = 1
 
 abbrev pub object_pending : ObjectAt → ℕ
 object_pending (objects.Iri at) = 0
-object_pending (objects.Label m) = mark_pending m.at
+object_pending (objects.Label at) = label_pending at
 object_pending (objects.Dot label) = 1
 object_pending (objects.String at) = 0
 

@@ -4,7 +4,7 @@ use Rattle.std.specs.Str.{encode_utf8_all, all_scalars}
 use Rattle.bye_lex.specs.Utf8.{NoCharacter}
 use Rattle.bye_ntriples.specs.Answers.{MayBeFront, IsFault}
 use Rattle.bye_ntriples.specs.DocSteps.{DocAt, start, step, is_over}
-use Rattle.bye_ntriples.specs.Running.{run}
+use Rattle.bye_lex.specs.Running.{run}
 use Rattle.bye_ntriples.specs.declared.fault.NtErr.{NtErr}
 use Rattle.bye_ntriples.specs.declared.fault.NtErr.TheVariants as faults
 

@@ -3,8 +3,6 @@ pub mod Lines
 pub mod Documents
 pub mod Answers
 pub mod Canonical
-pub mod Running
-pub mod TokenSteps
 pub mod LineSteps
 pub mod DocSteps
 pub mod Judging

@@ -55,7 +55,7 @@ Dotted End stated = Spaced (Dot End stated)
 
 -- the IRI of a datatype, which is rdf:langString nowhere: such a literal has a tag
 abbrev pub DatatypeToken : List ℕ → List ℕ → Type 0
-DatatypeToken text value = IriToken true text value × (is_lang_string value ≡ false)
+DatatypeToken text value = IriToken Triples text value × (is_lang_string value ≡ false)
 
 abbrev pub Datatype : (List ℕ → Type 0) → Term → List ℕ → List ℕ → List ℕ → Statement → Type 0
 Datatype End s p lexical = Spaced (Then DatatypeToken (λ datatype. Dotted End (triple_of s p (typed_of lexical datatype))))
@@ -79,17 +79,17 @@ Suffix End s p lexical = Spaced (AfterSpaces End s p lexical)
 -- an object: an IRI, a label or a string
 abbrev pub Object : (List ℕ → Type 0) → Term → List ℕ → List ℕ → Statement → Type 0
 Object End s p text triple =
-    Then (IriToken true) (λ o. Dotted End (triple_of s p (Iri o))) text triple
+    Then (IriToken Triples) (λ o. Dotted End (triple_of s p (Iri o))) text triple
     ⊎ (Then LabelToken (λ o. Dotted End (triple_of s p (Blank o))) text triple
     ⊎ Then (StringToken Triples) (λ lexical. Suffix End s p lexical) text triple)
 
 -- a predicate: an IRI
 abbrev pub Predicate : (List ℕ → Type 0) → Term → List ℕ → Statement → Type 0
-Predicate End s = Then (IriToken true) (λ p. Spaced (Object End s p))
+Predicate End s = Then (IriToken Triples) (λ p. Spaced (Object End s p))
 
 -- a subject: an IRI or a label
 abbrev pub Subject : (List ℕ → Type 0) → List ℕ → Statement → Type 0
-Subject End text triple = Then (IriToken true) (λ s. Spaced (Predicate End (Iri s))) text triple ⊎ Then LabelToken (λ s. Spaced (Predicate End (Blank s))) text triple
+Subject End text triple = Then (IriToken Triples) (λ s. Spaced (Predicate End (Iri s))) text triple ⊎ Then LabelToken (λ s. Spaced (Predicate End (Blank s))) text triple
 
 -- a triple with its dot, and what may stand after it
 abbrev pub Triple : (List ℕ → Type 0) → List ℕ → Statement → Type 0

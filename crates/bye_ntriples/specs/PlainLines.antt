@@ -9,8 +9,8 @@ use Rattle.bye_terms.specs.Terms.{Statement}
 use Rattle.bye_terms.specs.declared.term.Term.{Term}
 use Rattle.bye_terms.specs.declared.term.Term.TheVariants.{Iri, Blank}
 use Rattle.bye_lex.specs.Strings.{may_stand}
-use Rattle.bye_lex.specs.declared.string.Quote.TheVariants.{Double}
-use Rattle.bye_lex.specs.declared.string.Quoting.TheVariants.{Short}
+use Rattle.bye_lex.specs.declared.quoting.Quote.TheVariants.{Double}
+use Rattle.bye_lex.specs.declared.quoting.Quoting.TheVariants.{Short}
 use Rattle.bye_lex.specs.declared.style.Style.TheVariants.{Triples}
 use Rattle.bye_ntriples.specs.Lines.{is_space, is_line_end}
 use Rattle.bye_ntriples.specs.Triples.{triple_of, string_of, tagged_of, typed_of}

@@ -13,6 +13,7 @@ use crate::fault::NtErr;
 use crate::line::{LineAt, ObjectAt, is_line_end, last, step};
 use crate::plain::plain_line;
 use crate::subject::Parts;
+use bye_lex::LabelAt;
 use bye_terms::{Cursor, Memory, Triple, push_item};
 use std::alloc::Global;
 use std::marker::Model;
@@ -115,7 +116,7 @@ fn object_waits(at: &ObjectAt) -> bool
     ensures { if_one result ≡ spec.object_pending at.now }
 {
     match at {
-        ObjectAt::Label(at) => at.is_dotted(),
+        ObjectAt::Label(at) => matches!(at, LabelAt::Dotted(_, _)),
         ObjectAt::Dot(_) => true,
         ObjectAt::Iri(_) | ObjectAt::String(_) => false,
     }

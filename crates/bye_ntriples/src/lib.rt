@@ -10,7 +10,6 @@ mod pieces;
 mod plain;
 mod reader;
 mod subject;
-mod token;
 mod writer;
 
 pub use fault::NtErr;

@@ -3,27 +3,25 @@
 ghost use Rattle.bye_ntriples.specs.Lines as lines;
 ghost use Rattle.bye_ntriples.specs.LineSteps as spec;
 ghost use Rattle.bye_ntriples.specs.Triples.{triple_of, string_of, tagged_of};
-ghost use Rattle.bye_lex.specs.MarkSteps as marks;
 ghost use Rattle.std.specs.Prelude.{◌≡◌, IfOk, true};
 
 use crate::subject::{Parts, Subject};
-use crate::token::{IriReading, IriStep, LabelReading, TagReading};
-use bye_lex::{StringAt, Style, string_step};
-use bye_terms::{Iri, Label, Literal, Memory, Term, Text};
+use bye_lex::{IriAt, LabelAt, Machine, Stepped, StringAt, Style, TagAt};
+use bye_terms::{Iri, Label, Literal, Memory, Tag, Term, Text};
 use std::alloc::Global;
 
 /// How far a subject was read.
 #[derive(Debug, Drop)]
 pub enum SubjectAt {
-    Iri(IriReading),
-    Label(LabelReading),
+    Iri(IriAt),
+    Label(LabelAt),
 }
 
 /// How far an object was read.
 #[derive(Debug, Drop)]
 pub enum ObjectAt {
-    Iri(IriReading),
-    Label(LabelReading),
+    Iri(IriAt),
+    Label(LabelAt),
     /// After a label and a dot, which may belong to it or end the triple.
     Dot(Label),
     String(StringAt),
@@ -34,12 +32,12 @@ pub enum ObjectAt {
 pub enum SuffixAt {
     /// Nothing, or spaces.
     Start,
-    Tag(TagReading),
+    Tag(TagAt),
     /// The first `^`.
     Caret,
     /// Both of them, and maybe spaces.
     Carets,
-    Datatype(IriReading),
+    Datatype(IriAt),
 }
 
 /// How far a line was read.
@@ -49,7 +47,7 @@ pub enum LineAt {
     Begin,
     Subject(SubjectAt),
     AfterSubject(Subject),
-    Predicate(Subject, IriReading),
+    Predicate(Subject, IriAt),
     AfterPredicate(Subject, Iri),
     Object(Subject, Iri, ObjectAt),
     /// After a string.
@@ -99,18 +97,13 @@ fn ended(triple: Parts, c: char) -> Option<LineAt>
     None
 }
 
-fn in_predicate(
-    alloc: Global,
-    s: Subject,
-    at: IriReading,
-    c: char,
-) -> Result<Option<LineAt>, Memory>
+fn in_predicate(alloc: Global, s: Subject, at: IriAt, c: char) -> Result<Option<LineAt>, Memory>
     ensures { IfOk result (λ o. o ≡ spec.in_predicate s at c) }
 {
-    match at.step(alloc, c)? {
-        None => Ok(None),
-        Some(IriStep::Within(at)) => Ok(Some(LineAt::Predicate(s, at))),
-        Some(IriStep::Whole(p)) => Ok(Some(LineAt::AfterPredicate(s, p))),
+    match at.step(alloc, c, Style::Triples)? {
+        Stepped::Off(_) => Ok(None),
+        Stepped::On(IriAt::Done(p)) => Ok(Some(LineAt::AfterPredicate(s, p))),
+        Stepped::On(at) => Ok(Some(LineAt::Predicate(s, at))),
     }
 }
 
@@ -120,28 +113,26 @@ fn after_subject(alloc: Global, s: Subject, c: char) -> Result<Option<LineAt>, M
     if is_space(c) {
         return Ok(Some(LineAt::AfterSubject(s)));
     }
-    in_predicate(alloc, s, IriReading::new(), c)
+    in_predicate(alloc, s, IriAt::Start, c)
 }
 
-fn in_subject(alloc: Global, at: IriReading, c: char) -> Result<Option<LineAt>, Memory>
+fn in_subject(alloc: Global, at: IriAt, c: char) -> Result<Option<LineAt>, Memory>
     ensures { IfOk result (λ o. o ≡ spec.in_subject at c) }
 {
-    match at.step(alloc, c)? {
-        None => Ok(None),
-        Some(IriStep::Within(at)) => Ok(Some(LineAt::Subject(SubjectAt::Iri(at)))),
-        Some(IriStep::Whole(s)) => Ok(Some(LineAt::AfterSubject(Subject::iri(s)))),
+    match at.step(alloc, c, Style::Triples)? {
+        Stepped::Off(_) => Ok(None),
+        Stepped::On(IriAt::Done(s)) => Ok(Some(LineAt::AfterSubject(Subject::iri(s)))),
+        Stepped::On(at) => Ok(Some(LineAt::Subject(SubjectAt::Iri(at)))),
     }
 }
 
-fn in_subject_label(alloc: Global, at: LabelReading, c: char) -> Result<Option<LineAt>, Memory>
+fn in_subject_label(alloc: Global, at: LabelAt, c: char) -> Result<Option<LineAt>, Memory>
     ensures { IfOk result (λ o. o ≡ spec.in_subject_label at c) }
 {
-    if at.is_whole() && !at.takes(c) {
-        return after_subject(alloc, Subject::blank(at.into_label()), c);
-    }
-    match at.step(c)? {
-        None => Ok(None),
-        Some(at) => Ok(Some(LineAt::Subject(SubjectAt::Label(at)))),
+    match at.step(alloc, c, Style::Triples)? {
+        Stepped::On(at) => Ok(Some(LineAt::Subject(SubjectAt::Label(at)))),
+        Stepped::Off(LabelAt::In(s)) => after_subject(alloc, Subject::blank(s), c),
+        Stepped::Off(_) => Ok(None),
     }
 }
 
@@ -150,9 +141,9 @@ fn subject(alloc: Global, c: char) -> Result<Option<LineAt>, Memory>
     ensures { IfOk result (λ o. o ≡ spec.subject c) }
 {
     if c == '<' {
-        return in_subject(alloc, IriReading::new(), c);
+        return in_subject(alloc, IriAt::Start, c);
     }
-    in_subject_label(alloc, LabelReading::new(alloc), c)
+    in_subject_label(alloc, LabelAt::Start, c)
 }
 
 fn begin(alloc: Global, c: char) -> Result<Option<LineAt>, Memory>
@@ -171,45 +162,70 @@ fn in_object(
     alloc: Global,
     s: Subject,
     p: Iri,
-    at: IriReading,
+    at: IriAt,
     c: char,
 ) -> Result<Option<LineAt>, Memory>
     ensures { IfOk result (λ o. o ≡ spec.in_object s p at c) }
 {
-    match at.step(alloc, c)? {
-        None => Ok(None),
-        Some(IriStep::Within(at)) => Ok(Some(LineAt::Object(s, p, ObjectAt::Iri(at)))),
-        Some(IriStep::Whole(o)) => Ok(Some(LineAt::AfterObject(Parts::new(s, p, Term::Iri(o))))),
+    match at.step(alloc, c, Style::Triples)? {
+        Stepped::Off(_) => Ok(None),
+        Stepped::On(IriAt::Done(o)) => Ok(Some(LineAt::AfterObject(Parts::new(
+            s,
+            p,
+            Term::Iri(o),
+        )))),
+        Stepped::On(at) => Ok(Some(LineAt::Object(s, p, ObjectAt::Iri(at)))),
+    }
+}
+
+/// Within the label of an object, where no dot stands after a whole one.
+fn go_on_in_label(
+    alloc: Global,
+    s: Subject,
+    p: Iri,
+    at: LabelAt,
+    c: char,
+) -> Result<Option<LineAt>, Memory>
+    ensures { IfOk result (λ o. o ≡ spec.go_on_in_label s p at c) }
+{
+    match at.step(alloc, c, Style::Triples)? {
+        Stepped::On(at) => Ok(Some(LineAt::Object(s, p, ObjectAt::Label(at)))),
+        Stepped::Off(LabelAt::In(o)) => Ok(after_object(Parts::new(s, p, Term::Blank(o)), c)),
+        Stepped::Off(_) => Ok(None),
     }
 }
 
 /// Within the label of an object: after a whole label a dot may end the triple, and after two dots or more the label goes on.
-fn in_object_label(s: Subject, p: Iri, at: LabelReading, c: char) -> Result<Option<LineAt>, Memory>
+fn in_object_label(
+    alloc: Global,
+    s: Subject,
+    p: Iri,
+    at: LabelAt,
+    c: char,
+) -> Result<Option<LineAt>, Memory>
     ensures { IfOk result (λ o. o ≡ spec.in_object_label s p at c) }
 {
-    if at.is_whole() {
-        if c == '.' {
-            return Ok(Some(LineAt::Object(s, p, ObjectAt::Dot(at.into_label()))));
-        }
-        if !at.takes(c) {
-            return Ok(after_object(Parts::new(s, p, Term::Blank(at.into_label())), c));
-        }
-    }
-    match at.step(c)? {
-        None => Ok(None),
-        Some(at) => Ok(Some(LineAt::Object(s, p, ObjectAt::Label(at)))),
+    match at {
+        LabelAt::In(o) if c == '.' => Ok(Some(LineAt::Object(s, p, ObjectAt::Dot(o)))),
+        at => go_on_in_label(alloc, s, p, at, c),
     }
 }
 
 /// After a label and a dot: the label goes on, or the triple is ended.
-fn after_dot(s: Subject, p: Iri, label: Label, c: char) -> Result<Option<LineAt>, Memory>
+fn after_dot(
+    alloc: Global,
+    s: Subject,
+    p: Iri,
+    label: Label,
+    c: char,
+) -> Result<Option<LineAt>, Memory>
     ensures { IfOk result (λ o. o ≡ spec.after_dot s p label c) }
 {
-    if LabelReading::goes_on(c) {
-        let at = LabelReading::after_dot(label, c)?;
-        return Ok(Some(LineAt::Object(s, p, ObjectAt::Label(at))));
+    match LabelAt::after_dot(alloc, label)?.step(alloc, c, Style::Triples)? {
+        Stepped::On(at) => Ok(Some(LineAt::Object(s, p, ObjectAt::Label(at)))),
+        Stepped::Off(LabelAt::Dotted(o, _)) => Ok(ended(Parts::new(s, p, Term::Blank(o)), c)),
+        Stepped::Off(_) => unreachable!(),
     }
-    Ok(ended(Parts::new(s, p, Term::Blank(label)), c))
 }
 
 fn in_object_string(
@@ -221,10 +237,10 @@ fn in_object_string(
 ) -> Result<Option<LineAt>, Memory>
     ensures { IfOk result (λ o. o ≡ spec.in_object_string s p at c) }
 {
-    match string_step(alloc, at, c, Style::Triples)? {
-        None => Ok(None),
-        Some(StringAt::Done(text)) => Ok(Some(LineAt::Suffix(s, p, text, SuffixAt::Start))),
-        Some(at) => Ok(Some(LineAt::Object(s, p, ObjectAt::String(at)))),
+    match at.step(alloc, c, Style::Triples)? {
+        Stepped::Off(_) => Ok(None),
+        Stepped::On(StringAt::Done(text)) => Ok(Some(LineAt::Suffix(s, p, text, SuffixAt::Start))),
+        Stepped::On(at) => Ok(Some(LineAt::Object(s, p, ObjectAt::String(at)))),
     }
 }
 
@@ -232,12 +248,12 @@ fn object(alloc: Global, s: Subject, p: Iri, c: char) -> Result<Option<LineAt>, 
     ensures { IfOk result (λ o. o ≡ spec.object s p c) }
 {
     if c == '<' {
-        return in_object(alloc, s, p, IriReading::new(), c);
+        return in_object(alloc, s, p, IriAt::Start, c);
     }
     if c == '"' {
         return in_object_string(alloc, s, p, StringAt::Start, c);
     }
-    in_object_label(s, p, LabelReading::new(alloc), c)
+    in_object_label(alloc, s, p, LabelAt::Start, c)
 }
 
 fn after_predicate(alloc: Global, s: Subject, p: Iri, c: char) -> Result<Option<LineAt>, Memory>
@@ -261,13 +277,27 @@ fn tagged_triple(
     s: Subject,
     p: Iri,
     lexical: Text,
-    at: TagReading,
+    tag: Tag,
 ) -> Result<Parts, Memory>
-    requires { marks.is_whole at.at ≡ true }
-    ensures { IfOk result (λ t. t ≡ triple_of s p (tagged_of lexical at.text)) }
+    ensures { IfOk result (λ t. t ≡ triple_of s p (tagged_of lexical tag)) }
 {
-    let literal = Literal::tagged(alloc, lexical, at.into_tag())?;
+    let literal = Literal::tagged(alloc, lexical, tag)?;
     Ok(Parts::new(s, p, Term::Lit(literal)))
+}
+
+/// After a whole tag.
+fn after_tag(
+    alloc: Global,
+    s: Subject,
+    p: Iri,
+    lexical: Text,
+    tag: Tag,
+    c: char,
+) -> Result<Option<LineAt>, Memory>
+    ensures { IfOk result (λ o. o ≡ spec.after_object (triple_of s p (tagged_of lexical tag)) c) }
+{
+    let triple = tagged_triple(alloc, s, p, lexical, tag)?;
+    Ok(after_object(triple, c))
 }
 
 fn in_tag(
@@ -275,18 +305,16 @@ fn in_tag(
     s: Subject,
     p: Iri,
     lexical: Text,
-    at: TagReading,
+    at: TagAt,
     c: char,
 ) -> Result<Option<LineAt>, Memory>
     ensures { IfOk result (λ o. o ≡ spec.in_tag s p lexical at c) }
 {
-    if at.is_whole() && !at.takes(c) {
-        let triple = tagged_triple(alloc, s, p, lexical, at)?;
-        return Ok(after_object(triple, c));
-    }
-    match at.step(c)? {
-        None => Ok(None),
-        Some(at) => Ok(Some(LineAt::Suffix(s, p, lexical, SuffixAt::Tag(at)))),
+    match at.step(alloc, c, Style::Triples)? {
+        Stepped::On(at) => Ok(Some(LineAt::Suffix(s, p, lexical, SuffixAt::Tag(at)))),
+        Stepped::Off(TagAt::Letters(tag)) => after_tag(alloc, s, p, lexical, tag, c),
+        Stepped::Off(TagAt::Subtag(tag)) => after_tag(alloc, s, p, lexical, tag.into_tag(), c),
+        Stepped::Off(_) => Ok(None),
     }
 }
 
@@ -309,7 +337,7 @@ fn after_string(
     if c == '^' {
         return Ok(Some(LineAt::Suffix(s, p, lexical, SuffixAt::Caret)));
     }
-    in_tag(alloc, s, p, lexical, TagReading::new(alloc), c)
+    in_tag(alloc, s, p, lexical, TagAt::Start, c)
 }
 
 fn typed(s: Subject, p: Iri, lexical: Text, datatype: Iri) -> Option<LineAt>
@@ -326,20 +354,15 @@ fn in_datatype(
     s: Subject,
     p: Iri,
     lexical: Text,
-    at: IriReading,
+    at: IriAt,
     c: char,
 ) -> Result<Option<LineAt>, Memory>
     ensures { IfOk result (λ o. o ≡ spec.in_datatype s p lexical at c) }
 {
-    match at.step(alloc, c)? {
-        None => Ok(None),
-        Some(IriStep::Within(at)) => Ok(Some(LineAt::Suffix(
-            s,
-            p,
-            lexical,
-            SuffixAt::Datatype(at),
-        ))),
-        Some(IriStep::Whole(datatype)) => Ok(typed(s, p, lexical, datatype)),
+    match at.step(alloc, c, Style::Triples)? {
+        Stepped::Off(_) => Ok(None),
+        Stepped::On(IriAt::Done(datatype)) => Ok(typed(s, p, lexical, datatype)),
+        Stepped::On(at) => Ok(Some(LineAt::Suffix(s, p, lexical, SuffixAt::Datatype(at)))),
     }
 }
 
@@ -355,7 +378,7 @@ fn after_carets(
     if is_space(c) {
         return Ok(Some(LineAt::Suffix(s, p, lexical, SuffixAt::Carets)));
     }
-    in_datatype(alloc, s, p, lexical, IriReading::new(), c)
+    in_datatype(alloc, s, p, lexical, IriAt::Start, c)
 }
 
 fn caret(s: Subject, p: Iri, lexical: Text, c: char) -> Option<LineAt>
@@ -396,8 +419,8 @@ fn object_step(
 {
     match at {
         ObjectAt::Iri(at) => in_object(alloc, s, p, at, c),
-        ObjectAt::Label(at) => in_object_label(s, p, at, c),
-        ObjectAt::Dot(label) => after_dot(s, p, label, c),
+        ObjectAt::Label(at) => in_object_label(alloc, s, p, at, c),
+        ObjectAt::Dot(label) => after_dot(alloc, s, p, label, c),
         ObjectAt::String(at) => in_object_string(alloc, s, p, at, c),
     }
 }

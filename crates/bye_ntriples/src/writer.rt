@@ -49,23 +49,23 @@ fn know_triple(triple: &Triple)
 }
 
 /// Puts the spelling of a term at the end.
-fn push_spelling(out: &mut Vec<u8>, term: &Term) -> Result<(), Memory>
+fn push_spelling(alloc: Global, out: &mut Vec<u8>, term: &Term) -> Result<(), Memory>
     ensures { OnOk result (out.new.items ≡ out.old.items ++ term_bytes term.now) }
 {
     written_as_ordered();
-    push_term(out, term, Style::Triples)
+    push_term(alloc, out, term, Style::Triples)
 }
 
 /// Puts the line of a triple at the end.
 #[tactic(auto, using(crate::proofs::Spelled::line_put))]
-fn push_line(out: &mut Vec<u8>, triple: &Triple) -> Result<(), Memory>
+fn push_line(alloc: Global, out: &mut Vec<u8>, triple: &Triple) -> Result<(), Memory>
     ensures { OnOk result (out.new.items ≡ out.old.items ++ line_bytes triple.now) }
 {
-    push_spelling(out, triple.s())?;
+    push_spelling(alloc, out, triple.s())?;
     out.extend_from_slice(b" ")?;
-    push_spelling(out, triple.p())?;
+    push_spelling(alloc, out, triple.p())?;
     out.extend_from_slice(b" ")?;
-    push_spelling(out, triple.o())?;
+    push_spelling(alloc, out, triple.o())?;
     out.extend_from_slice(b" .\n")?;
     Ok(())
 }
@@ -78,12 +78,12 @@ struct Spelled {
 }
 
 /// Puts the line of a triple after the others.
-fn add(spelled: &mut Spelled, triple: &Triple) -> Result<(), Memory>
+fn add(alloc: Global, spelled: &mut Spelled, triple: &Triple) -> Result<(), Memory>
     ensures { OnOk result (IsAdded triple.now spelled.old.text.items spelled.old.lengths.items
         spelled.new.text.items spelled.new.lengths.items) }
 {
     let before = spelled.text.len();
-    push_line(&mut spelled.text, triple)?;
+    push_line(alloc, &mut spelled.text, triple)?;
     let length = spelled.text.len() - before;
     push_item(&mut spelled.lengths, length)
 }
@@ -98,7 +98,7 @@ fn spell(alloc: Global, triples: &[Triple]) -> Result<Spelled, Memory>
     };
     for triple in triples {
         know_triple(triple);
-        add(&mut spelled, triple)?;
+        add(alloc, &mut spelled, triple)?;
     }
     Ok(spelled)
 }
