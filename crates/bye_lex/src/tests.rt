@@ -3,82 +3,83 @@
 use super::*;
 use bye_terms::Text;
 
-/// Whether the answer is this text and the place after it.
-fn reads(found: &Text, end: usize, text: &str, place: usize) -> bool {
-    found.as_str() == text && end == place
-}
+/// What a test wants where no token stands there, with the place of the fault.
+const NONE: &str = "no token";
 
-/// Whether the fault is at this place, or, without one, that the text is cut.
-fn refuses(fault: &LexErr, place: Option<usize>) -> bool {
-    match fault {
-        LexErr::NoToken(found) => place == Some(*found),
-        LexErr::Cut => place.is_none(),
-        LexErr::Memory => false,
+/// What it wants where the text is cut, with no place.
+const CUT: &str = "cut";
+
+/// The value and the place after it, or what is wrong and where.
+fn told(answer: &Result<(Text, usize), LexErr>) -> (&str, usize) {
+    match answer {
+        Ok((value, end)) => (value.as_str(), *end),
+        Err(LexErr::NoToken(place)) => (NONE, *place),
+        Err(LexErr::Cut) => (CUT, 0),
+        Err(LexErr::Memory) => ("memory", 0),
     }
 }
 
 #[test]
 fn reads_iris(rt: HostRuntime) {
-    for (text, value, place) in [
-        ("<a:>", "a:", 4),
-        ("<http://e/\u{E9}?q#f> .", "http://e/\u{E9}?q#f", 17),
+    for (text, style, value, place) in [
+        ("<a:>", Style::Tsv, "a:", 4),
+        (
+            "<http://e/\u{E9}?q#f> .",
+            Style::Tsv,
+            "http://e/\u{E9}?q#f",
+            17,
+        ),
         (
             "<urn:x:\u{10348}\u{10FFFF}>>",
+            Style::Tsv,
             "urn:x:\u{10348}\u{10FFFF}",
             16,
         ),
-        ("<a+.-9:b><c:d>", "a+.-9:b", 9),
-        ("<a:\\u0062\\U00010348>", "a:b\u{10348}", 20),
-        ("<a:\\u00e9\\u00E9\\u0021>", "a:\u{E9}\u{E9}!", 22),
+        ("<a+.-9:b><c:d>", Style::Tsv, "a+.-9:b", 9),
+        ("<a:\\u0062\\U00010348>", Style::Tsv, "a:b\u{10348}", 20),
+        (
+            "<a:\\u00e9\\u00E9\\u0021>",
+            Style::Tsv,
+            "a:\u{E9}\u{E9}!",
+            22,
+        ),
         (
             "<a:\\uD7FF\\uE000\\U0010FFFF>",
+            Style::Tsv,
             "a:\u{D7FF}\u{E000}\u{10FFFF}",
             26,
         ),
-    ] {
-        let answer = iri_at(rt.alloc(), text.as_bytes(), 0, Style::Tsv);
-        let right = match &answer {
-            Ok((iri, end)) => reads(iri.text(), *end, value, place),
-            Err(_) => false,
-        };
-        assert!(rt; right, "{text:?}");
-    }
-}
-
-#[test]
-fn refuses_iris(rt: HostRuntime) {
-    for (text, style, place) in [
-        ("", Style::Triples, None),
-        ("<", Style::Triples, None),
-        ("<a", Style::Triples, None),
-        ("<a:b", Style::Query, None),
-        ("<a:\\", Style::Triples, None),
-        ("<a:\\u00e", Style::Tsv, None),
-        ("a:b", Style::Triples, Some(0)),
-        ("<>", Style::Triples, Some(1)),
-        ("<\\u0061:b>", Style::Triples, Some(1)),
-        ("</a:b>", Style::Triples, Some(1)),
-        ("<a/b:c>", Style::Triples, Some(2)),
-        ("<a:b c>", Style::Triples, Some(4)),
-        ("<a:\u{E9}\u{E9}\">", Style::Triples, Some(7)),
-        ("<a:\\n>", Style::Triples, Some(4)),
-        ("<a:\\u00g0>", Style::Triples, Some(7)),
-        ("<a:\\u0020>", Style::Triples, Some(8)),
-        ("<a:\\u001F>", Style::Triples, Some(7)),
-        ("<a:\\u003C>", Style::Triples, Some(8)),
-        ("<a:\\uD800>", Style::Triples, Some(6)),
-        ("<a:\\uDC", Style::Triples, Some(6)),
-        ("<a:\\U00110000>", Style::Triples, Some(8)),
-        ("<a:\\U01", Style::Triples, Some(6)),
-        ("<a:\\U0000D800>", Style::Triples, Some(10)),
-        ("<a:\\u0062>", Style::Query, Some(3)),
+        ("", Style::Triples, CUT, 0),
+        ("<", Style::Triples, CUT, 0),
+        ("<a", Style::Triples, CUT, 0),
+        ("<a:b", Style::Query, CUT, 0),
+        ("<a:\\", Style::Triples, CUT, 0),
+        ("<a:\\u00e", Style::Tsv, CUT, 0),
+        ("a:b", Style::Triples, NONE, 0),
+        ("<>", Style::Triples, NONE, 1),
+        ("<\\u0061:b>", Style::Triples, NONE, 1),
+        ("</a:b>", Style::Triples, NONE, 1),
+        ("<a/b:c>", Style::Triples, NONE, 2),
+        ("<a:b c>", Style::Triples, NONE, 4),
+        ("<a:\u{E9}\u{E9}\">", Style::Triples, NONE, 7),
+        ("<a:\\n>", Style::Triples, NONE, 4),
+        ("<a:\\u00g0>", Style::Triples, NONE, 7),
+        ("<a:\\u0020>", Style::Triples, NONE, 8),
+        ("<a:\\u001F>", Style::Triples, NONE, 7),
+        ("<a:\\u003C>", Style::Triples, NONE, 8),
+        ("<a:\\uD800>", Style::Triples, NONE, 6),
+        ("<a:\\uDC", Style::Triples, NONE, 6),
+        ("<a:\\U00110000>", Style::Triples, NONE, 8),
+        ("<a:\\U01", Style::Triples, NONE, 6),
+        ("<a:\\U0000D800>", Style::Triples, NONE, 10),
+        ("<a:\\u0062>", Style::Query, NONE, 3),
     ] {
         let answer = iri_at(rt.alloc(), text.as_bytes(), 0, style);
-        let right = match &answer {
-            Ok(_) => false,
-            Err(fault) => refuses(fault, place),
+        let answer = match answer {
+            Ok((iri, end)) => Ok((iri.into_text(), end)),
+            Err(fault) => Err(fault),
         };
-        assert!(rt; right, "{text:?}");
+        assert_eq!(rt; told(&answer), (value, place), "{text:?}");
     }
 }
 
@@ -92,31 +93,22 @@ fn reads_labels(rt: HostRuntime) {
         ("_:0:_-\u{B7}\u{203F} .", "0:_-\u{B7}\u{203F}", 11),
         ("_:\u{10000}\u{EFFFF}\u{F0000}", "\u{10000}\u{EFFFF}", 10),
         ("_:::", "::", 4),
+        ("", CUT, 0),
+        ("_", CUT, 0),
+        ("_:", CUT, 0),
+        ("a", NONE, 0),
+        ("_a", NONE, 1),
+        ("_:.a", NONE, 2),
+        ("_:-", NONE, 2),
+        ("_:\u{B7}", NONE, 2),
+        ("_: ", NONE, 2),
     ] {
         let answer = label_at(rt.alloc(), text.as_bytes(), 0);
-        let right = match &answer {
-            Ok((label, end)) => reads(label.text(), *end, value, place),
-            Err(_) => false,
+        let answer = match answer {
+            Ok((label, end)) => Ok((label.into_text(), end)),
+            Err(fault) => Err(fault),
         };
-        assert!(rt; right, "{text:?}");
-    }
-    for (text, place) in [
-        ("", None),
-        ("_", None),
-        ("_:", None),
-        ("a", Some(0)),
-        ("_a", Some(1)),
-        ("_:.a", Some(2)),
-        ("_:-", Some(2)),
-        ("_:\u{B7}", Some(2)),
-        ("_: ", Some(2)),
-    ] {
-        let answer = label_at(rt.alloc(), text.as_bytes(), 0);
-        let right = match &answer {
-            Ok(_) => false,
-            Err(fault) => refuses(fault, place),
-        };
-        assert!(rt; right, "{text:?}");
+        assert_eq!(rt; told(&answer), (value, place), "{text:?}");
     }
 }
 
@@ -129,28 +121,19 @@ fn reads_tags(rt: HostRuntime) {
         ("@en-1.", "en-1", 5),
         ("@zh-Hant-2a\u{E9}", "zh-Hant-2a", 11),
         ("@e1", "e", 2),
+        ("", CUT, 0),
+        ("@", CUT, 0),
+        ("en", NONE, 0),
+        ("@-", NONE, 1),
+        ("@1", NONE, 1),
+        ("@\u{E9}", NONE, 1),
     ] {
         let answer = tag_at(rt.alloc(), text.as_bytes(), 0);
-        let right = match &answer {
-            Ok((tag, end)) => reads(tag.text(), *end, value, place),
-            Err(_) => false,
+        let answer = match answer {
+            Ok((tag, end)) => Ok((tag.into_text(), end)),
+            Err(fault) => Err(fault),
         };
-        assert!(rt; right, "{text:?}");
-    }
-    for (text, place) in [
-        ("", None),
-        ("@", None),
-        ("en", Some(0)),
-        ("@-", Some(1)),
-        ("@1", Some(1)),
-        ("@\u{E9}", Some(1)),
-    ] {
-        let answer = tag_at(rt.alloc(), text.as_bytes(), 0);
-        let right = match &answer {
-            Ok(_) => false,
-            Err(fault) => refuses(fault, place),
-        };
-        assert!(rt; right, "{text:?}");
+        assert_eq!(rt; told(&answer), (value, place), "{text:?}");
     }
 }
 
@@ -167,27 +150,18 @@ fn reads_names(rt: HostRuntime) {
         ("x:y", "x", 1),
         ("x.y", "x", 1),
         ("\u{10000}\u{F0000}", "\u{10000}", 4),
+        ("", CUT, 0),
+        ("-", NONE, 0),
+        ("\u{B7}", NONE, 0),
+        ("\u{D7}", NONE, 0),
+        ("?x", NONE, 0),
     ] {
         let answer = name_at(rt.alloc(), text.as_bytes(), 0);
-        let right = match &answer {
-            Ok((name, end)) => reads(name.name(), *end, value, place),
-            Err(_) => false,
+        let answer = match answer {
+            Ok((name, end)) => Ok((name.into_name(), end)),
+            Err(fault) => Err(fault),
         };
-        assert!(rt; right, "{text:?}");
-    }
-    for (text, place) in [
-        ("", None),
-        ("-", Some(0)),
-        ("\u{B7}", Some(0)),
-        ("\u{D7}", Some(0)),
-        ("?x", Some(0)),
-    ] {
-        let answer = name_at(rt.alloc(), text.as_bytes(), 0);
-        let right = match &answer {
-            Ok(_) => false,
-            Err(fault) => refuses(fault, place),
-        };
-        assert!(rt; right, "{text:?}");
+        assert_eq!(rt; told(&answer), (value, place), "{text:?}");
     }
 }
 
@@ -228,44 +202,27 @@ fn reads_strings(rt: HostRuntime) {
         ("'''\"\\'\\n'''", Style::Query, "\"'\n", 11),
         ("'''a''\\u'''", Style::Query, "", 2),
         ("\"\"\"a\"\"", Style::Query, "", 2),
+        ("", Style::Query, CUT, 0),
+        ("\"", Style::Query, CUT, 0),
+        ("\"a", Style::Triples, CUT, 0),
+        ("\"a\\", Style::Triples, CUT, 0),
+        ("\"\\uD7F", Style::Triples, CUT, 0),
+        ("a\"", Style::Triples, NONE, 0),
+        ("'a'", Style::Triples, NONE, 0),
+        ("\"a\nb\"", Style::Triples, NONE, 2),
+        ("\"a\rb\"", Style::Query, NONE, 2),
+        ("\"a\tb\"", Style::Tsv, NONE, 2),
+        ("'\u{E9}\n'", Style::Tsv, NONE, 3),
+        ("\"\\a\"", Style::Triples, NONE, 2),
+        ("\"\\u0041\"", Style::Query, NONE, 2),
+        ("\"\\ud8", Style::Triples, NONE, 4),
+        ("\"\\uDFFF\"", Style::Triples, NONE, 4),
+        ("\"\\U0011", Style::Triples, NONE, 6),
+        ("\"\\U00110000\"", Style::Tsv, NONE, 6),
+        ("\"\\U02", Style::Tsv, NONE, 4),
+        ("\"\\u00G0\"", Style::Tsv, NONE, 5),
     ] {
         let answer = string_at(rt.alloc(), text.as_bytes(), 0, style);
-        let right = match &answer {
-            Ok((found, end)) => reads(found, *end, value, place),
-            Err(_) => false,
-        };
-        assert!(rt; right, "{text:?}");
-    }
-}
-
-#[test]
-fn refuses_strings(rt: HostRuntime) {
-    for (text, style, place) in [
-        ("", Style::Query, None),
-        ("\"", Style::Query, None),
-        ("\"a", Style::Triples, None),
-        ("\"a\\", Style::Triples, None),
-        ("\"\\uD7F", Style::Triples, None),
-        ("a\"", Style::Triples, Some(0)),
-        ("'a'", Style::Triples, Some(0)),
-        ("\"a\nb\"", Style::Triples, Some(2)),
-        ("\"a\rb\"", Style::Query, Some(2)),
-        ("\"a\tb\"", Style::Tsv, Some(2)),
-        ("'\u{E9}\n'", Style::Tsv, Some(3)),
-        ("\"\\a\"", Style::Triples, Some(2)),
-        ("\"\\u0041\"", Style::Query, Some(2)),
-        ("\"\\ud8", Style::Triples, Some(4)),
-        ("\"\\uDFFF\"", Style::Triples, Some(4)),
-        ("\"\\U0011", Style::Triples, Some(6)),
-        ("\"\\U00110000\"", Style::Tsv, Some(6)),
-        ("\"\\U02", Style::Tsv, Some(4)),
-        ("\"\\u00G0\"", Style::Tsv, Some(5)),
-    ] {
-        let answer = string_at(rt.alloc(), text.as_bytes(), 0, style);
-        let right = match &answer {
-            Ok(_) => false,
-            Err(fault) => refuses(fault, place),
-        };
-        assert!(rt; right, "{text:?}");
+        assert_eq!(rt; told(&answer), (value, place), "{text:?}");
     }
 }

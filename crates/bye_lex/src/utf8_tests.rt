@@ -50,8 +50,11 @@ fn decodes(rt: HostRuntime) {
         (b"\xC3\xA9\xFFabcd".as_slice(), "\u{E9}", 5, false),
     ] {
         let found = decode(bytes);
-        let right = found.text == text && found.left.len() == left && found.begins == begins;
-        assert!(rt; right, "{bytes:?}");
+        assert_eq!(rt;
+            (found.text, found.left.len(), found.begins),
+            (text, left, begins),
+            "{bytes:?}"
+        );
     }
 }
 
@@ -79,6 +82,6 @@ fn goes_on_in_labels(rt: HostRuntime) {
         (b"\xF4".as_slice(), false),
         (b"\xF5".as_slice(), false),
     ] {
-        assert!(rt; may_go_on_in_label(left) == goes_on, "{left:?}");
+        assert_eq!(rt; may_go_on_in_label(left), goes_on, "{left:?}");
     }
 }

@@ -108,9 +108,9 @@ walk d [] = Went d
 walk d (c ∷ cs) = onward d (c ∷ cs) (λ n. walk n cs) (step d c)
 
 -- a state where there is one, and else a line's beginning
-abbrev pub present : List LineAt → LineAt
-present [] = Begin
-present (at ∷ more) = at
+abbrev pub in_slot : List LineAt → LineAt
+in_slot [] = Begin
+in_slot (at ∷ more) = at
 
 -- whether a step was made, and to where
 abbrev pub Moves : Bool → DocAt → Option DocAt → Type 0

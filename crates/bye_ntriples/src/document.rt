@@ -10,9 +10,10 @@ ghost use Rattle.std.specs.Prelude.{◌≡◌, ◌≤◌, ◌+◌, ◌++◌, Som
 ghost use Rattle.std.specs.Str.{encode_utf8_all};
 
 use crate::fault::NtErr;
-use crate::line::{LineAt, ObjectAt, is_line_end, last, step};
+use crate::line::{LineAt, ObjectAt, is_line_end, step, triple_at_end};
+use crate::line_slot::LineSlot;
+use crate::line_triple::LineTriple;
 use crate::plain::plain_line;
-use crate::subject::Parts;
 use bye_lex::LabelAt;
 use bye_terms::{Cursor, Memory, Triple, push_item};
 use std::alloc::Global;
@@ -21,70 +22,11 @@ use std::marker::Model;
 /// The greatest number of triples of a document, repeats counted.
 const TRIPLE_LIMIT: usize = 1_048_576;
 
-/// How far the present line was read, kept on the heap: nothing stands there at the line's beginning.
-#[derive(Debug, Drop)]
-struct Present {
-    states: Vec<LineAt>,
-}
-
-impl Model for Present {
-    ghost use Rattle.std.specs.Prelude.{◌≤◌, length};
-    ghost use Rattle.bye_ntriples.specs.DocSteps.{present};
-    ghost use Rattle.bye_ntriples.specs.declared.line.LineAt.{LineAt};
-
-    ghost Value = { LineAt };
-
-    ghost view = { λ p. present p.states.items };
-
-    ghost invariant = { λ p. length p.states.items ≤ 1 };
-}
-
-impl Present {
-    fn new(alloc: Global) -> Present
-        ensures { result ≡ lines.Begin }
-    {
-        Present {
-            states: Vec::new(alloc),
-        }
-    }
-
-    /// Takes the state away; what stands there then is a line's beginning.
-    fn take(&mut self) -> LineAt
-        ensures taken { result ≡ self.old }
-        ensures begin { self.new ≡ lines.Begin }
-    {
-        match self.states.pop() {
-            Some(at) => at,
-            None => LineAt::Begin,
-        }
-    }
-
-    /// Puts a state there.
-    fn put(&mut self, at: LineAt) -> Result<(), Memory>
-        ensures { OnOk result (self.new ≡ at) }
-    {
-        self.states.clear();
-        push_item(&mut self.states, at)
-    }
-
-    fn is_begin(&self) -> bool
-        ensures { result ≡ true → self.now ≡ lines.Begin }
-    {
-        self.states.is_empty()
-    }
-
-    fn get(&self) -> Option<&LineAt>
-        ensures { MatchOption result (self.now ≡ lines.Begin) (λ at. self.now ≡ at.now) }
-    {
-        self.states.first()
-    }
-}
-
 /// The triples of the lines before, and how far the present line was read.
 #[derive(Debug, Drop)]
 pub struct Document {
     triples: Vec<Triple>,
-    at: Present,
+    at: LineSlot,
 }
 
 impl Model for Document {
@@ -96,23 +38,23 @@ impl Model for Document {
 }
 
 /// Puts the triple of a line at the end.
-fn keep_last(triples: &mut Vec<Triple>, last: Option<Parts>) -> Result<(), Memory>
-    ensures { OnOk result (triples.new.items ≡ triples.old.items ++ option_to_list last) }
+fn push_triple(triples: &mut Vec<Triple>, triple: Option<LineTriple>) -> Result<(), Memory>
+    ensures { OnOk result (triples.new.items ≡ triples.old.items ++ option_to_list triple) }
 {
-    match last {
-        Some(parts) => push_item(triples, parts.into_triple()),
+    match triple {
+        Some(triple) => push_item(triples, triple.into_triple()),
         None => Ok(()),
     }
 }
 
 /// Whether the present line has a triple whose dot is read.
-fn holds(at: &LineAt) -> bool
+fn has_triple(at: &LineAt) -> bool
     ensures { if_one result ≡ spec.held at.now }
 {
     matches!(at, LineAt::Ended(_) | LineAt::Comment(Some(_)))
 }
 
-fn object_waits(at: &ObjectAt) -> bool
+fn ends_at_dot(at: &ObjectAt) -> bool
     ensures { if_one result ≡ spec.object_pending at.now }
 {
     match at {
@@ -123,11 +65,11 @@ fn object_waits(at: &ObjectAt) -> bool
 }
 
 /// Whether the present line has one that ends at a dot unless that belongs to a label.
-fn waits(at: &LineAt) -> bool
+fn may_end_at_dot(at: &LineAt) -> bool
     ensures { if_one result ≡ spec.pending at.now }
 {
     match at {
-        LineAt::Object(_, _, at) => object_waits(at),
+        LineAt::Object(_, _, at) => ends_at_dot(at),
         _ => false,
     }
 }
@@ -162,7 +104,7 @@ impl Document {
     {
         Document {
             triples: Vec::new(alloc),
-            at: Present::new(alloc),
+            at: LineSlot::new(alloc),
         }
     }
 
@@ -171,7 +113,7 @@ impl Document {
         ensures { result ≡ spec.is_over self.now }
     {
         match self.at.get() {
-            Some(at) => exceeds(&self.triples, holds(at)),
+            Some(at) => exceeds(&self.triples, has_triple(at)),
             None => exceeds(&self.triples, false),
         }
     }
@@ -181,7 +123,7 @@ impl Document {
         ensures { result ≡ spec.is_over_there self.now }
     {
         match self.at.get() {
-            Some(at) => exceeds(&self.triples, holds(at) || waits(at)),
+            Some(at) => exceeds(&self.triples, has_triple(at) || may_end_at_dot(at)),
             None => exceeds(&self.triples, false),
         }
     }
@@ -190,9 +132,9 @@ impl Document {
     fn end_line(&mut self) -> Result<bool, Memory>
         ensures { IfOk result (λ ended. Moves ended self.new (option_map (spec.line_ended self.old.done) (line_spec.final self.old.at))) }
     {
-        match last(self.at.take()) {
+        match triple_at_end(self.at.take()) {
             Some(triple) => {
-                keep_last(&mut self.triples, triple)?;
+                push_triple(&mut self.triples, triple)?;
                 Ok(true)
             }
             None => Ok(false),
@@ -282,9 +224,9 @@ impl Document {
             mut triples,
             mut at,
         } = self;
-        match last(at.take()) {
+        match triple_at_end(at.take()) {
             Some(triple) => {
-                keep_last(&mut triples, triple)?;
+                push_triple(&mut triples, triple)?;
                 Ok(Some(triples))
             }
             None => Ok(None),

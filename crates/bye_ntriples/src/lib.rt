@@ -6,6 +6,8 @@ mod fault;
 mod keys;
 mod laws;
 mod line;
+mod line_slot;
+mod line_triple;
 mod pieces;
 mod plain;
 mod reader;

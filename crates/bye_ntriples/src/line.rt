@@ -5,7 +5,8 @@ ghost use Rattle.bye_ntriples.specs.LineSteps as spec;
 ghost use Rattle.bye_ntriples.specs.Triples.{triple_of, string_of, tagged_of};
 ghost use Rattle.std.specs.Prelude.{◌≡◌, IfOk, true};
 
-use crate::subject::{Parts, Subject};
+use crate::line_triple::LineTriple;
+use crate::subject::Subject;
 use bye_lex::{IriAt, LabelAt, Machine, Stepped, StringAt, Style, TagAt};
 use bye_terms::{Iri, Label, Literal, Memory, Tag, Term, Text};
 use std::alloc::Global;
@@ -52,11 +53,11 @@ pub enum LineAt {
     Object(Subject, Iri, ObjectAt),
     /// After a string.
     Suffix(Subject, Iri, Text, SuffixAt),
-    AfterObject(Parts),
+    AfterObject(LineTriple),
     /// After the dot.
-    Ended(Parts),
+    Ended(LineTriple),
     /// In a comment, with the triple that stands before it.
-    Comment(Option<Parts>),
+    Comment(Option<LineTriple>),
 }
 
 /// A space or a TAB.
@@ -73,7 +74,7 @@ pub fn is_line_end(c: char) -> bool
     c == '\n' || c == '\r'
 }
 
-fn after_object(triple: Parts, c: char) -> Option<LineAt>
+fn after_object(triple: LineTriple, c: char) -> Option<LineAt>
     ensures { result ≡ spec.after_object triple c }
 {
     if is_space(c) {
@@ -85,7 +86,7 @@ fn after_object(triple: Parts, c: char) -> Option<LineAt>
     None
 }
 
-fn ended(triple: Parts, c: char) -> Option<LineAt>
+fn ended(triple: LineTriple, c: char) -> Option<LineAt>
     ensures { result ≡ spec.ended triple c }
 {
     if is_space(c) {
@@ -169,7 +170,7 @@ fn in_object(
 {
     match at.step(alloc, c, Style::Triples)? {
         Stepped::Off(_) => Ok(None),
-        Stepped::On(IriAt::Done(o)) => Ok(Some(LineAt::AfterObject(Parts::new(
+        Stepped::On(IriAt::Done(o)) => Ok(Some(LineAt::AfterObject(LineTriple::new(
             s,
             p,
             Term::Iri(o),
@@ -190,7 +191,7 @@ fn go_on_in_label(
 {
     match at.step(alloc, c, Style::Triples)? {
         Stepped::On(at) => Ok(Some(LineAt::Object(s, p, ObjectAt::Label(at)))),
-        Stepped::Off(LabelAt::In(o)) => Ok(after_object(Parts::new(s, p, Term::Blank(o)), c)),
+        Stepped::Off(LabelAt::In(o)) => Ok(after_object(LineTriple::new(s, p, Term::Blank(o)), c)),
         Stepped::Off(_) => Ok(None),
     }
 }
@@ -223,7 +224,7 @@ fn after_dot(
 {
     match LabelAt::after_dot(alloc, label)?.step(alloc, c, Style::Triples)? {
         Stepped::On(at) => Ok(Some(LineAt::Object(s, p, ObjectAt::Label(at)))),
-        Stepped::Off(LabelAt::Dotted(o, _)) => Ok(ended(Parts::new(s, p, Term::Blank(o)), c)),
+        Stepped::Off(LabelAt::Dotted(o, _)) => Ok(ended(LineTriple::new(s, p, Term::Blank(o)), c)),
         Stepped::Off(_) => unreachable!(),
     }
 }
@@ -265,11 +266,11 @@ fn after_predicate(alloc: Global, s: Subject, p: Iri, c: char) -> Result<Option<
     object(alloc, s, p, c)
 }
 
-fn string_triple(alloc: Global, s: Subject, p: Iri, lexical: Text) -> Result<Parts, Memory>
+fn string_triple(alloc: Global, s: Subject, p: Iri, lexical: Text) -> Result<LineTriple, Memory>
     ensures { IfOk result (λ t. t ≡ triple_of s p (string_of lexical)) }
 {
     let literal = Literal::string(alloc, lexical)?;
-    Ok(Parts::new(s, p, Term::Lit(literal)))
+    Ok(LineTriple::new(s, p, Term::Lit(literal)))
 }
 
 fn tagged_triple(
@@ -278,11 +279,11 @@ fn tagged_triple(
     p: Iri,
     lexical: Text,
     tag: Tag,
-) -> Result<Parts, Memory>
+) -> Result<LineTriple, Memory>
     ensures { IfOk result (λ t. t ≡ triple_of s p (tagged_of lexical tag)) }
 {
     let literal = Literal::tagged(alloc, lexical, tag)?;
-    Ok(Parts::new(s, p, Term::Lit(literal)))
+    Ok(LineTriple::new(s, p, Term::Lit(literal)))
 }
 
 /// After a whole tag.
@@ -344,7 +345,7 @@ fn typed(s: Subject, p: Iri, lexical: Text, datatype: Iri) -> Option<LineAt>
     ensures { result ≡ spec.typed s p lexical datatype }
 {
     match Literal::typed(lexical, datatype) {
-        Some(literal) => Some(LineAt::AfterObject(Parts::new(s, p, Term::Lit(literal)))),
+        Some(literal) => Some(LineAt::AfterObject(LineTriple::new(s, p, Term::Lit(literal)))),
         None => None,
     }
 }
@@ -390,7 +391,7 @@ fn caret(s: Subject, p: Iri, lexical: Text, c: char) -> Option<LineAt>
     None
 }
 
-fn comment(triple: Option<Parts>, c: char) -> Option<LineAt>
+fn comment(triple: Option<LineTriple>, c: char) -> Option<LineAt>
     ensures { result ≡ spec.comment triple c }
 {
     if is_line_end(c) {
@@ -463,11 +464,11 @@ pub fn step(alloc: Global, at: LineAt, c: char) -> Result<Option<LineAt>, Memory
 }
 
 /// The triple of a line that ends within its object.
-fn last_object(s: Subject, p: Iri, at: ObjectAt) -> Option<Option<Parts>>
+fn triple_in_object(s: Subject, p: Iri, at: ObjectAt) -> Option<Option<LineTriple>>
     ensures { result ≡ spec.last_object s p at }
 {
     match at {
-        ObjectAt::Dot(label) => Some(Some(Parts::new(s, p, Term::Blank(label)))),
+        ObjectAt::Dot(label) => Some(Some(LineTriple::new(s, p, Term::Blank(label)))),
         ObjectAt::Iri(_) => None,
         ObjectAt::Label(_) => None,
         ObjectAt::String(_) => None,
@@ -475,12 +476,12 @@ fn last_object(s: Subject, p: Iri, at: ObjectAt) -> Option<Option<Parts>>
 }
 
 /// The triple of a line that ends there, and None where no line ends there.
-pub fn last(at: LineAt) -> Option<Option<Parts>>
+pub fn triple_at_end(at: LineAt) -> Option<Option<LineTriple>>
     ensures { result ≡ spec.final at }
 {
     match at {
         LineAt::Begin => Some(None),
-        LineAt::Object(s, p, at) => last_object(s, p, at),
+        LineAt::Object(s, p, at) => triple_in_object(s, p, at),
         LineAt::Ended(triple) => Some(Some(triple)),
         LineAt::Comment(triple) => Some(triple),
         _ => None,

@@ -8,7 +8,8 @@ ghost use Rattle.std.specs.Option.{option_map};
 ghost use Rattle.std.specs.Str.{chars};
 
 use crate::line::{is_line_end, is_space};
-use crate::subject::{Parts, Subject};
+use crate::line_triple::LineTriple;
+use crate::subject::Subject;
 use bye_terms::{Cursor, Label, Literal, Memory, Tag, Term, Text, raw_iri};
 use std::alloc::Global;
 
@@ -153,7 +154,7 @@ fn take_end(rest: &mut Cursor<'_>) -> bool
 
 /// A line with a triple and no comment, and its end. Where none stands there, what is left of the text is open.
 #[tactic(auto, unfolding(crate::specs::PlainLines::plain_line))]
-pub fn plain_line(alloc: Global, rest: &mut Cursor<'_>) -> Result<Option<Parts>, Memory>
+pub fn plain_line(alloc: Global, rest: &mut Cursor<'_>) -> Result<Option<LineTriple>, Memory>
     ensures { IfOk result (λ o. option_map (λ t. (t, rest.new)) o ≡ spec.plain_line rest.old) }
 {
     let Some(s) = subject(alloc, rest)? else {
@@ -175,5 +176,5 @@ pub fn plain_line(alloc: Global, rest: &mut Cursor<'_>) -> Result<Option<Parts>,
     if !take_end(rest) {
         return Ok(None);
     }
-    Ok(Some(Parts::new(s, p, o)))
+    Ok(Some(LineTriple::new(s, p, o)))
 }

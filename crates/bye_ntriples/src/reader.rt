@@ -69,7 +69,7 @@ impl Reading {
     }
 
     /// Takes bytes that come after whole characters. After a refusal the reading is spoiled.
-    fn take(&mut self, alloc: Global, bytes: &[u8]) -> Result<(), NtErr>
+    fn take_bytes(&mut self, alloc: Global, bytes: &[u8]) -> Result<(), NtErr>
         requires { self.old.place + length bytes.now < 2 ^ 64 }
         ensures ok { (front : List ℕ) → LedTo front self.old.doc self.old.place → OnOk result (HasCome (encode_utf8_all front ++ bytes.now) self.new) }
         ensures err { (front : List ℕ) → LedTo front self.old.doc self.old.place → IfErr result (IsRefusal (encode_utf8_all front ++ bytes.now)) }
@@ -93,11 +93,11 @@ impl Reading {
         ensures taken { OnOk result (taken self.new ≡ taken self.old + length piece.now) }
     {
         if self.left.is_empty() {
-            return self.take(alloc, piece);
+            return self.take_bytes(alloc, piece);
         }
         let mut bytes = mem::replace(&mut self.left, Vec::new(alloc));
         append(&mut bytes, piece)?;
-        self.take(alloc, bytes.as_slice())
+        self.take_bytes(alloc, bytes.as_slice())
     }
 
     /// The triples of the document that ends there.
@@ -129,6 +129,6 @@ pub fn read_triples(alloc: Global, bytes: &[u8]) -> Result<Vec<Triple>, NtErr>
     ensures fault { IfErr result (IsFault bytes.now) }
 {
     let mut reading = Reading::new(alloc);
-    reading.take(alloc, bytes)?;
+    reading.take_bytes(alloc, bytes)?;
     reading.finish()
 }

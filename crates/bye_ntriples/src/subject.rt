@@ -1,8 +1,7 @@
-ghost use Rattle.bye_ntriples.specs.Triples.{triple_of};
 ghost use Rattle.bye_terms.specs.declared.term.Term.TheVariants as terms;
 ghost use Rattle.std.specs.Prelude.{◌≡◌};
 
-use bye_terms::{Iri, Label, Term, Triple};
+use bye_terms::{Iri, Label, Term};
 use std::marker::Model;
 
 /// A term that may be a subject: an IRI or a blank node (RDF 1.1 Concepts, section 3.1).
@@ -47,42 +46,5 @@ impl Subject {
         ensures { result ≡ self }
     {
         self.term
-    }
-}
-
-/// A triple by its parts.
-#[derive(Debug, Drop)]
-pub struct Parts {
-    s: Subject,
-    p: Iri,
-    o: Term,
-}
-
-impl Model for Parts {
-    ghost use Rattle.bye_terms.specs.Terms.{Statement};
-    ghost use Rattle.bye_ntriples.specs.Triples.{triple_of};
-
-    ghost Value = { Statement };
-
-    ghost view = { λ t. triple_of t.s t.p t.o };
-}
-
-impl Parts {
-    /// The triple of these parts.
-    pub fn new(s: Subject, p: Iri, o: Term) -> Parts
-        ensures { result ≡ triple_of s p o }
-    {
-        Parts { s, p, o }
-    }
-
-    /// The triple.
-    pub fn into_triple(self) -> Triple
-        ensures { result ≡ self }
-    {
-        Triple {
-            s: self.s.term,
-            p: Term::Iri(self.p),
-            o: self.o,
-        }
     }
 }

@@ -8,28 +8,15 @@ use bye_terms::Triple;
 use std::alloc::Global;
 use std::test::Fail;
 
-/// What a document is: its canonical document, or its fault.
-#[derive(Copy, Clone)]
-enum Answer {
-    Graph(&'static str),
-    Fault(NtErr),
-}
-
-/// Whether an answer of a reader is the one that is wanted.
-fn is_answer(
-    alloc: Global,
-    read: Result<Vec<Triple>, NtErr>,
-    wanted: Answer,
-) -> Result<bool, Fail> {
-    match (read, wanted) {
-        (Ok(triples), Answer::Graph(text)) => {
+/// What a document was read as: its canonical document, or its fault.
+fn told(alloc: Global, read: Result<Vec<Triple>, NtErr>) -> Result<String, Fail> {
+    match read {
+        Ok(triples) => {
             let bytes = write_triples(alloc, triples.as_slice())?;
-            Ok(bytes.as_slice() == text.as_bytes())
+            let text = str::from_utf8(bytes.as_slice()).or(Err("no text"))?;
+            Ok(String::from_str(alloc, text)?)
         }
-        (Err(NtErr::Syntax(place)), Answer::Fault(NtErr::Syntax(other))) => Ok(place == other),
-        (Err(NtErr::NotUtf8(place)), Answer::Fault(NtErr::NotUtf8(other))) => Ok(place == other),
-        (Err(NtErr::TooMany), Answer::Fault(NtErr::TooMany)) => Ok(true),
-        _ => Ok(false),
+        Err(fault) => Ok(format!(in alloc; "{fault:?}")?),
     }
 }
 
@@ -58,65 +45,53 @@ fn fed(alloc: Global, bytes: &[u8], length: usize) -> Result<Vec<Triple>, NtErr>
 
 const LINE: &str = "<http://e/a> <http://e/p> _:b .\n";
 
-const DOCUMENTS: &[(&[u8], Answer)] = &[
-    (b"", Answer::Graph("")),
-    (b" \t\r\n# no triple\n\n", Answer::Graph("")),
-    (b"<http://e/a><http://e/p>_:b.", Answer::Graph(LINE)),
+const DOCUMENTS: &[(&[u8], &str)] = &[
+    (b"", ""),
+    (b" \t\r\n# no triple\n\n", ""),
+    (b"<http://e/a><http://e/p>_:b.", LINE),
     (
         b"\r<http://e/a>\t<http://e/p> _:b. # b\r\n<http://e/a> <http://e/p> _:b .#\n",
-        Answer::Graph(LINE),
+        LINE,
     ),
     (
         b"<http://e/a> <http://e/p> \"1\" ^^ <http://e/t> .\n",
-        Answer::Graph("<http://e/a> <http://e/p> \"1\"^^<http://e/t> .\n"),
+        "<http://e/a> <http://e/p> \"1\"^^<http://e/t> .\n",
     ),
     (
         b"_:b.c <http://e/p> \"#\\t\\u00e9\xC3\xA9\" @en-GB .",
-        Answer::Graph("_:b.c <http://e/p> \"#\t\u{E9}\u{E9}\"@en-GB .\n"),
+        "_:b.c <http://e/p> \"#\t\u{E9}\u{E9}\"@en-GB .\n",
     ),
     (
         b"_:a <http://e/p> _:b..c.\n_:a <http://e/p> \"\"^^<http://www.w3.org/2001/XMLSchema#string>.",
-        Answer::Graph("_:a <http://e/p> \"\" .\n_:a <http://e/p> _:b..c .\n"),
+        "_:a <http://e/p> \"\" .\n_:a <http://e/p> _:b..c .\n",
     ),
-    (b"<http://e/a\\u0020>", Answer::Fault(NtErr::Syntax(16))),
-    (b"<a>", Answer::Fault(NtErr::Syntax(2))),
-    (b"<http://e/\xC3", Answer::Fault(NtErr::NotUtf8(10))),
-    (b"# \xC3\xA9\xFF\n<", Answer::Fault(NtErr::NotUtf8(4))),
-    (
-        b"<http://e/a> <http://e/p> _:b .\n ,\xFF",
-        Answer::Fault(NtErr::Syntax(33)),
-    ),
-    (
-        b"<http://e/a> <http://e/p> _:b\n",
-        Answer::Fault(NtErr::Syntax(29)),
-    ),
-    (
-        b"<http://e/a> <http://e/p> _:b",
-        Answer::Fault(NtErr::Syntax(29)),
-    ),
+    (b"<http://e/a\\u0020>", "Syntax(16)"),
+    (b"<a>", "Syntax(2)"),
+    (b"<http://e/\xC3", "NotUtf8(10)"),
+    (b"# \xC3\xA9\xFF\n<", "NotUtf8(4)"),
+    (b"<http://e/a> <http://e/p> _:b .\n ,\xFF", "Syntax(33)"),
+    (b"<http://e/a> <http://e/p> _:b\n", "Syntax(29)"),
+    (b"<http://e/a> <http://e/p> _:b", "Syntax(29)"),
     (
         b"<http://e/a> <http://e/p> _:b . <http://e/a>",
-        Answer::Fault(NtErr::Syntax(32)),
+        "Syntax(32)",
     ),
-    (b"\"a\" <http://e/p> _:b .", Answer::Fault(NtErr::Syntax(0))),
-    (b"_:a _:p _:b .", Answer::Fault(NtErr::Syntax(4))),
+    (b"\"a\" <http://e/p> _:b .", "Syntax(0)"),
+    (b"_:a _:p _:b .", "Syntax(4)"),
     (
         b"_:a <http://e/p> \"a\"^^<http://www.w3.org/1999/02/22-rdf-syntax-ns#langString> .",
-        Answer::Fault(NtErr::Syntax(76)),
+        "Syntax(76)",
     ),
 ];
 
 #[test]
 fn reads_documents(rt: HostRuntime) -> Result<(), Fail> {
-    for (bytes, answer) in DOCUMENTS {
-        let read = read_triples(rt.alloc(), bytes);
-        assert!(rt; is_answer(rt.alloc(), read, *answer)?, "{bytes:?}");
+    for (bytes, wanted) in DOCUMENTS {
+        let whole = told(rt.alloc(), read_triples(rt.alloc(), bytes))?;
+        assert_eq!(rt; whole.as_str(), *wanted, "{bytes:?}");
         for length in [1, 2, 7] {
-            let read = fed(rt.alloc(), bytes, length);
-            assert!(rt;
-                is_answer(rt.alloc(), read, *answer)?,
-                "{bytes:?} by {length}"
-            );
+            let pieces = told(rt.alloc(), fed(rt.alloc(), bytes, length))?;
+            assert_eq!(rt; pieces.as_str(), *wanted, "{bytes:?} by {length}");
         }
     }
     Ok(())
@@ -163,30 +138,12 @@ fn lines(alloc: Global, count: usize) -> Result<Vec<u8>, Fail> {
 fn counts_triples(rt: HostRuntime) -> Result<(), Fail> {
     let mut bytes = lines(rt.alloc(), 1_048_576)?;
     let most = read_triples(rt.alloc(), bytes.as_slice());
-    assert!(rt; most.is_ok_and(|triples| triples.len() == 1_048_576));
+    assert_eq!(rt; most.map(|triples| triples.len()).unwrap_or(0), 1_048_576);
     bytes.extend_from_slice(b"_:a<http://e/p>_:b.")?;
-    let more = read_triples(rt.alloc(), bytes.as_slice());
-    assert!(rt; is_answer(rt.alloc(), more, Answer::Fault(NtErr::TooMany))?);
+    let more = told(rt.alloc(), read_triples(rt.alloc(), bytes.as_slice()))?;
+    assert_eq!(rt; more.as_str(), "TooMany");
     bytes.extend_from_slice(b"c")?;
-    let longer = read_triples(rt.alloc(), bytes.as_slice());
-    let end = bytes.len();
-    assert!(rt; matches!(longer, Err(NtErr::Syntax(place)) if place == end));
-    Ok(())
-}
-
-/// Every feed of a document that ends within a character is accepted.
-#[test]
-fn a_character_may_be_cut(rt: HostRuntime) -> Result<(), Fail> {
-    for length in [1, 11] {
-        let mut reader = NtReader::new(rt.alloc());
-        assert!(rt; feed_all(&mut reader, b"<http://e/\xC3", length).is_ok());
-        assert!(rt;
-            is_answer(
-                rt.alloc(),
-                reader.finish(),
-                Answer::Fault(NtErr::NotUtf8(10))
-            )?
-        );
-    }
+    let longer = told(rt.alloc(), read_triples(rt.alloc(), bytes.as_slice()))?;
+    assert_eq!(rt; longer.as_str(), "Syntax(20971540)");
     Ok(())
 }

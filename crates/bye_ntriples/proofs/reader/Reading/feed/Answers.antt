@@ -9,4 +9,4 @@ returns-clause-err c bytes h =
     let whole = append_assoc (encode_utf8_all k.front) c.self.inside.left.items c.args.piece.now in
     let same = c.as_slice.ensures.value ∙ c.in_ok-append.ensures ∙ ap (λ v. v.items ++ c.args.piece.now) c.replace-bytes.ensures.value in
     let together = ap (λ l. encode_utf8_all k.front ++ l) same ∙ sym whole ∙ ap (λ l. l ++ c.args.piece.now) (sym k.parts) in
-    subst (λ (l : List ℕ). IfErr c.take-2.result (IsRefusal l)) together (c.take-2.ensures.err k.front k.led)
+    subst (λ (l : List ℕ). IfErr c.take_bytes-2.result (IsRefusal l)) together (c.take_bytes-2.ensures.err k.front k.led)

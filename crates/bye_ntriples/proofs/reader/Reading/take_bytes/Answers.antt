@@ -4,7 +4,7 @@ use Rattle.std.proofs.lemmas.Result.{err_from_is_err_and}
 use Rattle.bye_ntriples.specs.DocSteps.{walk, CannotWalk}
 use Rattle.bye_ntriples.specs.Feeding.{ReadingAt, HasCome, LedTo}
 use Rattle.bye_ntriples.proofs.Feeds.{cut_of, text_length, walk_fault, refuses_left, takes}
-use Rattle.bye_ntriples.proofs.reader.Reading.take.Goals as goal
+use Rattle.bye_ntriples.proofs.reader.Reading.take_bytes.Goals as goal
 
 clash : (b : Bool) → b ≡ false → b ≡ true → ⊥
 clash true f e = cc
