@@ -4,6 +4,7 @@ ghost use Rattle.std.specs.Ordering.{nat_cmp};
 ghost use Rattle.std.specs.Str.{encode_utf8_all};
 ghost use Rattle.bye_terms.specs.Pieces.{left_of};
 ghost use Rattle.bye_terms.specs.Spellings.{term_bytes};
+ghost use Rattle.bye_terms.specs.Valid.{IsRdfTerm};
 
 use crate::iri::Iri;
 use crate::label::Label;
@@ -36,6 +37,25 @@ fn raw<'a>(head: &'a [u8], text: &'a Text, last: &'a [u8]) -> Spelling<'a>
 }
 
 impl Term {
+    /// The term, as one of RDF.
+    pub fn as_rdf(&self) -> &Term
+        ensures same { result.now ≡ self.now }
+        ensures valid { IsRdfTerm self.now }
+    {
+        match self {
+            Term::Iri(iri) => {
+                let _text = iri.text();
+            }
+            Term::Blank(label) => {
+                let _text = label.text();
+            }
+            Term::Lit(literal) => {
+                let _literal = literal.as_rdf();
+            }
+        }
+        self
+    }
+
     /// Whether the two are the same term: all parts equal, character by character.
     pub fn same(&self, other: &Term) -> bool
         ensures { IsTrue result ↔ (self.now ≡ other.now) }
