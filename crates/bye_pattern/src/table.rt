@@ -3,8 +3,8 @@ ghost use Rattle.std.specs.Str.{chars};
 ghost use Rattle.bye_pattern.specs.Mappings.{Pairs};
 ghost use Rattle.bye_pattern.specs.Tables.{TableValue, IsHeader, IsRows, IsTable, IsFirstTable};
 
-use crate::cells::cells;
-use crate::header::header;
+use crate::cells::read_cells;
+use crate::header::read_header;
 use crate::row::Row;
 use bye_terms::{Cursor, Memory, Var, push_item};
 use std::alloc::Global;
@@ -69,7 +69,7 @@ fn read_rows(alloc: Global, vars: &[Var], mut rest: Cursor<'_>) -> Result<Vec<Ro
 {
     let mut rows = Vec::new(alloc);
     while !rest.is_empty() {
-        let Some(pairs) = cells(alloc, vars, &mut rest)? else {
+        let Some(pairs) = read_cells(alloc, vars, &mut rest)? else {
             return Err(TableErr::NotFirstTable);
         };
         push_item(&mut rows, Row::new(pairs))?;
@@ -86,7 +86,7 @@ fn read_text(alloc: Global, text: &str) -> Result<Table, TableErr>
     let Some(line) = rest.until('\n') else {
         return Err(TableErr::NotFirstTable);
     };
-    let Some(vars) = header(alloc, line)? else {
+    let Some(vars) = read_header(alloc, line)? else {
         return Err(TableErr::NotFirstTable);
     };
     match read_rows(alloc, vars.as_slice(), rest) {

@@ -1,5 +1,5 @@
 use Rattle.bye_pattern.proofs.RowLines.{cells_kept}
-use Rattle.bye_pattern.proofs.cells.cells.Goals as goal
+use Rattle.bye_pattern.proofs.cells.read_cells.Goals as goal
 
 pub loop-var-preserved : goal.loop-var-preserved
 loop-var-preserved c =

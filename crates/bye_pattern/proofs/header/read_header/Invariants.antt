@@ -4,7 +4,7 @@ use Rattle.std.specs.Str.{chars}
 use Rattle.bye_pattern.specs.Tables.{IsHeaderName}
 use Rattle.bye_terms.specs.Members.{EachOnce}
 use Rattle.bye_pattern.proofs.HeaderLines.{field_text}
-use Rattle.bye_pattern.proofs.header.header.Given as goal
+use Rattle.bye_pattern.proofs.header.read_header.Given as goal
 
 abbrev pub invariant-loop-field : goal.invariant-loop-field
 invariant-loop-field l = record {

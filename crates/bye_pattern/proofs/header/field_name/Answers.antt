@@ -4,7 +4,7 @@ use Rattle.bye_terms.specs.Reading.{◌>>=◌, after_at}
 use Rattle.bye_pattern.specs.Tables.{is_header_name}
 use Rattle.bye_pattern.specs.Reading.{name_of}
 use Rattle.bye_pattern.proofs.HeaderLines.{header_name_is_name}
-use Rattle.bye_pattern.proofs.header.name.Goals as goal
+use Rattle.bye_pattern.proofs.header.field_name.Goals as goal
 
 answered : (text copy : List ℕ) (o : Option (List ℕ)) → copy ≡ text → is_name text ≡ true → IfSome o (λ i. (i ≡ copy) × IsTrue (is_name copy)) → IfNone o (is_name copy ≡ false) → o ≡ Some text
 answered text copy (Some i) e is some none = ap Some (some.0 ∙ e)
