@@ -4,8 +4,9 @@ ghost use Rattle.std.specs.Prelude.{◌≡◌, ◌++◌, ◌∷◌, [], ◌||◌
 ghost use Rattle.bye_pattern.specs.Conditions.{same_term};
 ghost use Rattle.bye_pattern.specs.Candidates as spec;
 
+use crate::constant::Constant;
 use crate::pattern::TriplePattern;
-use crate::slot::{Constant, Slot};
+use crate::slot::Slot;
 use bye_terms::{Memory, Term, Triple, Var, push_item};
 use std::alloc::Global;
 

@@ -6,6 +6,7 @@ ghost use Rattle.bye_pattern.specs.Tables.{TableValue, IsHeader, IsRows, IsTable
 use crate::cells::read_cells;
 use crate::header::read_header;
 use crate::row::Row;
+use crate::table_err::TableErr;
 use bye_terms::{Cursor, Memory, Var, push_item};
 use std::alloc::Global;
 use std::marker::Model;
@@ -39,24 +40,6 @@ impl Table {
         ensures { result.now ≡ self.now.rows }
     {
         self.rows.as_slice()
-    }
-}
-
-/// Why a table document was not read.
-#[derive(Debug, Drop)]
-pub enum TableErr {
-    NotFirstTable,
-    Memory,
-}
-
-impl From<Memory> for TableErr {
-    ghost use Rattle.bye_pattern.specs.declared.table.TableErr.TheVariants as faults;
-    ghost use Rattle.std.specs.Prelude.{◌≡◌};
-
-    ghost from_gives = { λ _ e. e ≡ faults.Memory };
-
-    fn from(_: Memory) -> Self {
-        TableErr::Memory
     }
 }
 
