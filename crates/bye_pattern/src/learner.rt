@@ -28,7 +28,7 @@ pub enum Learned {
 }
 
 /// The candidates of the first row that hold in all rows.
-fn common(
+fn common_candidates(
     alloc: Global,
     graph: &[Triple],
     first: &Row,
@@ -88,7 +88,7 @@ fn strongest(alloc: Global, graph: &[Triple], wanted: &Table) -> Result<Vec<Trip
         → IsStrongest graph.now wanted.now v.items) }
 {
     let rows = wanted.rows();
-    let kept = common(alloc, graph, &rows[0], rows)?;
+    let kept = common_candidates(alloc, graph, &rows[0], rows)?;
     in_trial_order(alloc, kept)
 }
 

@@ -24,7 +24,7 @@ pub enum Term {
 }
 
 /// The spelling of a text that stands between two others as it is.
-fn raw<'a>(head: &'a [u8], text: &'a Text, last: &'a [u8]) -> Spelling<'a>
+fn unescaped<'a>(head: &'a [u8], text: &'a Text, last: &'a [u8]) -> Spelling<'a>
     ensures { left_of result ≡ head.now ++ encode_utf8_all text.now ++ last.now }
 {
     Spelling {
@@ -83,8 +83,8 @@ impl Term {
         ensures { left_of result ≡ term_bytes self.now }
     {
         match self {
-            Term::Iri(iri) => raw(b"<", iri.text(), b">"),
-            Term::Blank(label) => raw(b"_:", label.text(), b""),
+            Term::Iri(iri) => unescaped(b"<", iri.text(), b">"),
+            Term::Blank(label) => unescaped(b"_:", label.text(), b""),
             Term::Lit(literal) => literal.spelling(),
         }
     }
