@@ -11,6 +11,7 @@ ghost use Rattle.bye_pattern.specs.Covering as covering;
 ghost use Rattle.bye_pattern.specs.Learning.{wanted_of, AreFull, IsStrongest, IsLearned};
 
 use crate::candidates::candidates;
+use crate::learned::Learned;
 use crate::meeting::meets_all;
 use crate::pattern::TriplePattern;
 use crate::ranked::in_trial_order;
@@ -19,13 +20,6 @@ use crate::slot::Slot;
 use crate::table::Table;
 use bye_terms::{Memory, Triple, Var, push_item};
 use std::alloc::Global;
-
-/// What was learned: the triple patterns of the query, or the first variable that none contains.
-#[derive(Debug, Drop)]
-pub enum Learned {
-    Query(Vec<TriplePattern>),
-    Uncovered(Var),
-}
 
 /// The candidates of the first row that hold in all rows.
 fn common_candidates(

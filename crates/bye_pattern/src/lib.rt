@@ -8,6 +8,7 @@ mod cond;
 mod constant;
 mod header;
 mod laws;
+mod learned;
 mod learner;
 mod meeting;
 mod node;
@@ -29,7 +30,8 @@ pub use laws::{
     classes_at_one_node, common_patterns_fit, designed_at_once, domains_by_numbers,
     dropping_keeps_answers, fitting_is_meeting, none_fits_where_uncovered, one_table,
 };
-pub use learner::{Learned, learn};
+pub use learned::Learned;
+pub use learner::learn;
 pub use node::Node;
 pub use pattern::TriplePattern;
 pub use printer::write_conjunction;
