@@ -8,7 +8,8 @@ mod folder;
 mod mem_folder;
 mod mem_sink;
 mod plan;
-mod real;
+mod real_folder;
+mod real_sink;
 mod sink;
 mod source;
 
@@ -16,7 +17,8 @@ pub use fault::{Failed, ReadErr};
 pub use folder::Folder;
 pub use mem_folder::MemFolder;
 pub use mem_sink::MemSink;
-pub use real::{RealErr, RealFolder, RealOut};
+pub use real_folder::RealFolder;
+pub use real_sink::{RealErr, RealOut, RealSink};
 pub use sink::{Sink, write_all};
 pub use source::{Source, read_all};
 

@@ -18,8 +18,9 @@ use Rattle.bye_ntriples.specs.Canonical.{IsStatement, DocumentsHaveStatements}
 use Rattle.bye_ntriples.specs.Documents.{LaterLine, IsLaterLine}
 use Rattle.bye_ntriples.specs.Lines.{Spaced, Then, LineEnd, Dot, Dotted, DatatypeToken, Datatype, AfterSpaces, Object, Predicate, Subject, Line}
 use Rattle.bye_ntriples.specs.Triples.{triple_of, string_of, tagged_of, typed_of}
-use Rattle.bye_ntriples.specs.Writing.{IsSpelled}
-use Rattle.bye_ntriples.proofs.Spelled.{iri, blank, tagged, untagged, statement, all_join}
+use Rattle.bye_terms.specs.Valid.{IsRdfTerm}
+use Rattle.bye_terms.proofs.RdfTerms.{iri, blank, tagged, untagged}
+use Rattle.bye_ntriples.proofs.Spelled.{statement, all_join}
 
 abbrev Scalars : List ℕ → Type 0
 Scalars text = all_scalars text ≡ true
@@ -99,19 +100,19 @@ string_scalars text value h s =
     subst Scalars (sym h.after.stands) (string_groups h.quoting h.after.groups h.after.each inner)
 
 -- the terms of tokens
-iri_term : (text value : List ℕ) → IriToken Triples text value → Scalars text → IsSpelled (Iri value)
+iri_term : (text value : List ℕ) → IriToken Triples text value → Scalars text → IsRdfTerm (Iri value)
 iri_term text value h s = iri value (iri_scalars text value h s) (token_is Triples text value h)
 
-label_term : (text value : List ℕ) → LabelToken text value → Scalars text → IsSpelled (Blank value)
+label_term : (text value : List ℕ) → LabelToken text value → Scalars text → IsRdfTerm (Blank value)
 label_term text value h s = blank value (parted (95 ∷ 58 ∷ []) value (subst Scalars h.0 s)).1 h.1
 
-string_term : (lexical : List ℕ) → Scalars lexical → IsSpelled (string_of lexical)
+string_term : (lexical : List ℕ) → Scalars lexical → IsRdfTerm (string_of lexical)
 string_term lexical s = untagged _ refl refl s refl refl
 
-tagged_term : (lexical text tag : List ℕ) → TagToken text tag → Scalars lexical → Scalars text → IsSpelled (tagged_of lexical tag)
+tagged_term : (lexical text tag : List ℕ) → TagToken text tag → Scalars lexical → Scalars text → IsRdfTerm (tagged_of lexical tag)
 tagged_term lexical text tag h lexical_scalars s = tagged _ tag refl refl lexical_scalars (parted (64 ∷ []) tag (subst Scalars h.0 s)).1 h.1
 
-typed_term : (lexical text datatype : List ℕ) → DatatypeToken text datatype → Scalars lexical → Scalars text → IsSpelled (typed_of lexical datatype)
+typed_term : (lexical text datatype : List ℕ) → DatatypeToken text datatype → Scalars lexical → Scalars text → IsRdfTerm (typed_of lexical datatype)
 typed_term lexical text datatype h lexical_scalars s = untagged _ refl (sym h.1) lexical_scalars (iri_scalars text datatype h.0 s) (token_is Triples text datatype h.0)
 
 -- a text of Unicode in the rule gives a triple of terms
@@ -128,8 +129,8 @@ then_gives L Rest f text t h s = let k = parted h.own h.rest (subst Scalars h.sp
 dotted : (t : Statement) → IsStatement t → Gives (Dotted LineEnd t)
 dotted t valid = spaced (Dot LineEnd t) (λ text u h s. subst IsStatement (sym h.is) valid)
 
-module _ (s : Term) (p : List ℕ) (subject : IsSpelled s) (is : is_subject s ≡ true) (predicate : IsSpelled (Iri p)) where
-  triple : (o : Term) → IsSpelled o → IsStatement (triple_of s p o)
+module _ (s : Term) (p : List ℕ) (subject : IsRdfTerm s) (is : is_subject s ≡ true) (predicate : IsRdfTerm (Iri p)) where
+  triple : (o : Term) → IsRdfTerm o → IsStatement (triple_of s p o)
   triple o object = statement (triple_of s p o) subject predicate object (is, refl)
 
   datatype : (lexical : List ℕ) → Scalars lexical → Gives (Datatype LineEnd s p lexical)
@@ -153,7 +154,7 @@ module _ (s : Term) (p : List ℕ) (subject : IsSpelled s) (is : is_subject s �
       (λ h. then_gives (StringToken Triples) _ (λ own value h k. spaced _ (after_string value (string_scalars own value h k))) text t h k) h)
       h
 
-predicate : (s : Term) → IsSpelled s → is_subject s ≡ true → Gives (Predicate LineEnd s)
+predicate : (s : Term) → IsRdfTerm s → is_subject s ≡ true → Gives (Predicate LineEnd s)
 predicate s subject is = then_gives (IriToken Triples) _ (λ own value h k. spaced _ (object s value subject is (iri_term own value h k)))
 
 subject : Gives (Subject LineEnd)

@@ -16,6 +16,7 @@ use Rattle.bye_ntriples.specs.Documents.{NtDoc}
 abbrev pub line_text : Statement → List ℕ
 line_text triple = term_text triple.s ++ codes " " ++ term_text triple.p ++ codes " " ++ term_text triple.o ++ codes " .\n"
 
+-- the line as it stands in a document, in UTF-8
 abbrev pub line_bytes : Statement → List ℕ
 line_bytes triple = encode_utf8_all (line_text triple)
 

@@ -1,23 +1,16 @@
 -- How the canonical document is made: the lines are spelled one after another, cut apart, sorted, and joined without repeats.
-use Rattle.std.specs.Prelude.{◌≡◌, ℕ, true, false, cond, List, [], ◌∷◌, ◌++◌, length, take, drop, map}
+use Rattle.std.specs.Prelude.{◌≡◌, ℕ, false, cond, List, [], ◌∷◌, ◌++◌, length, take, drop, map}
 use Rattle.std.specs.List.{flat_map, AllByRecursion}
 use Rattle.std.specs.List.Sorted.{IsPermutation}
 use Rattle.std.specs.Ordering.{nat_cmp, is_lt}
 use Rattle.std.specs.Cmp.Lexicographic.{slice_cmp}
-use Rattle.std.specs.Str.{bytes_eq, all_scalars, IsCharBoundary}
-use Rattle.bye_terms.specs.Spellings.{term_text}
+use Rattle.std.specs.Str.{bytes_eq, IsCharBoundary}
 use Rattle.bye_terms.specs.Terms.{Statement}
-use Rattle.bye_terms.specs.declared.term.Term.{Term}
-use Rattle.bye_lex.specs.ReadingBack.{IsTerm}
 use Rattle.bye_ntriples.specs.Canonical.{line_bytes, IsStatement}
 
--- a term of RDF, in characters of Unicode
-pub record IsSpelled (term : Term) : Type 0 where
-  pub is : IsTerm term
-  pub scalars : all_scalars (term_text term) ≡ true
-
--- the line of the triple was put after the text, and its length after the lengths
+-- the line of a triple of terms was put after the text, and its length after the lengths
 pub record IsAdded (triple : Statement) (text lengths new_text new_lengths : List ℕ) : Type 0 where
+  pub valid : IsStatement triple
   pub line : new_text ≡ text ++ line_bytes triple
   pub long : new_lengths ≡ lengths ++ length (line_bytes triple) ∷ []
 

@@ -1,6 +1,22 @@
-//! Keys of lines: numbers that do not fall where lines do not, so that most lines are sorted without a look at them. Some lines
-//! are taken as labels of a tree. A key has the way of a line down this tree, and the bytes after the front that the labels on
-//! either side have in common. The keys are right whatever the labels are.
+//! Lines are sorted with keys. Nearly all lines of a graph begin alike, `<http://example.org/p` say, so that a comparison of two
+//! reads many bytes, from places far apart in memory, before it comes to one that differs. A key is two numbers of 64 bits that
+//! stand beside the line and never fall where lines do not: where the keys of two lines differ they give the order, and only
+//! lines of one key are compared themselves.
+//!
+//! A key has the bytes of its line that follow what it shares with its neighbours:
+//! - 63 lines at even steps are labels. Sorted, they are a search tree of six levels, which a line goes down to one of 64 gaps.
+//! - What the labels on either side of a gap have in common at their fronts, every line between them begins with too.
+//! - The first number has the gap, whether the line comes before, among or after those with that front, and the six bytes behind
+//!   the front. The second number has the eight bytes after these.
+//!
+//! Between the labels `<http://e/p12> ..` and `<http://e/p17> ..` lines begin with `<http://e/p1`. There the line
+//! `<http://e/p145> <http://e/knows> ..` has the key of that gap, "among", `45> <h` and `ttp://e/`.
+//!
+//! The keys are right whatever the labels and the fronts are, so nothing is proved of how they are chosen: bad ones only give more
+//! lines the same key.
+//!
+//! To convert a million shuffled lines of `bench/people.sh` takes 1.05 seconds; with keys of the lines' first bytes, which all lines
+//! share, it takes 1.3. Where the lines come in order, the keys gain nothing and cost some 0.05 seconds.
 
 ghost use Rattle.std.specs.Prelude.{◌≡◌, ◌<◌, ◌*◌, ◌+◌, ◌^◌, IfOk, map, option_map, slice_get};
 ghost use Rattle.bye_ntriples.specs.Keys as spec;

@@ -3,50 +3,13 @@
 
 ghost use Rattle.std.specs.Prelude.{◌≡◌, ◌++◌, [], IfOk, OnOk, map};
 ghost use Rattle.bye_terms.specs.Spellings.{term_bytes};
-ghost use Rattle.bye_terms.specs.declared.term.Term.TheVariants as terms;
 ghost use Rattle.bye_ntriples.specs.Canonical.{line_bytes, IsCanonical, IsReadBack, IsStatement};
-ghost use Rattle.bye_ntriples.specs.Writing.{IsSpelled, IsAdded, AreSpelled, parts, MayCut, joined, AreJoined};
+ghost use Rattle.bye_ntriples.specs.Writing.{IsAdded, AreSpelled, parts, MayCut, joined, AreJoined};
 
 use crate::keys::keyed;
 use bye_lex::{Style, push_term, written_as_ordered};
-use bye_terms::{Iri, Label, Literal, Memory, Tag, Term, Text, Triple, push_item};
+use bye_terms::{Memory, Term, Triple, push_item};
 use std::alloc::Global;
-
-/// Makes known that a literal is one of RDF, in characters of Unicode. It does nothing.
-fn know_literal(literal: &Literal)
-    ensures { IsSpelled (terms.Lit literal.now) }
-{
-    let _lexical = literal.lexical().as_str();
-    let _datatype = literal.datatype().text().as_str();
-    if let Some(tag) = &literal.tag {
-        let _tag = tag.text().as_str();
-    }
-}
-
-/// Makes the same known of a term.
-fn know_term(term: &Term)
-    ensures { IsSpelled term.now }
-{
-    match term {
-        Term::Iri(iri) => {
-            let _text = iri.text().as_str();
-        }
-        Term::Blank(label) => {
-            let _text = label.text().as_str();
-        }
-        Term::Lit(literal) => know_literal(literal),
-    }
-}
-
-/// Makes known that a triple is one of such terms.
-fn know_triple(triple: &Triple)
-    ensures { IsStatement triple.now }
-{
-    know_term(triple.s());
-    know_term(triple.p());
-    know_term(triple.o());
-    let _subject = &triple.s;
-}
 
 /// Puts the spelling of a term at the end.
 fn push_spelling(alloc: Global, out: &mut Vec<u8>, term: &Term) -> Result<(), Memory>
@@ -59,7 +22,8 @@ fn push_spelling(alloc: Global, out: &mut Vec<u8>, term: &Term) -> Result<(), Me
 /// Puts the line of a triple at the end.
 #[tactic(auto, using(crate::proofs::Spelled::line_put))]
 fn push_line(alloc: Global, out: &mut Vec<u8>, triple: &Triple) -> Result<(), Memory>
-    ensures { OnOk result (out.new.items ≡ out.old.items ++ line_bytes triple.now) }
+    ensures line { OnOk result (out.new.items ≡ out.old.items ++ line_bytes triple.now) }
+    ensures valid { OnOk result (IsStatement triple.now) }
 {
     push_spelling(alloc, out, triple.s())?;
     out.extend_from_slice(b" ")?;
@@ -97,7 +61,6 @@ fn spell(alloc: Global, triples: &[Triple]) -> Result<Spelled, Memory>
         lengths: Vec::with_capacity(alloc, triples.len())?,
     };
     for triple in triples {
-        know_triple(triple);
         add(alloc, &mut spelled, triple)?;
     }
     Ok(spelled)

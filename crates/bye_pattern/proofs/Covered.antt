@@ -80,21 +80,21 @@ not_false true e = refl
 not_false false e = cc
 
 -- the test of a row and a pattern
-is_term_some : (o : Option Term) (t : Term) → test.is_term o t ≡ true → o ≡ Some t
-is_term_some None t e = cc
-is_term_some (Some s) t e = ap Some (terms_same s t e)
+gives_some : (o : Option Term) (t : Term) → test.gives o t ≡ true → o ≡ Some t
+gives_some None t e = cc
+gives_some (Some s) t e = ap Some (terms_same s t e)
 
-some_is_term : (o : Option Term) (t : Term) → o ≡ Some t → test.is_term o t ≡ true
-some_is_term o t e = ap (λ o. test.is_term o t) e ∙ same_self t
+some_gives : (o : Option Term) (t : Term) → o ≡ Some t → test.gives o t ≡ true
+some_gives o t e = ap (λ o. test.gives o t) e ∙ same_self t
 
 becomes_true : (m : Mapping) (p : Pattern) (f : Statement) → test.becomes m p f ≡ true → Becomes m p f
 becomes_true m p f e =
     let w = both_parts _ _ e in
     let u = both_parts _ _ w.0 in
-    record { s = is_term_some (slot_under m p.s) f.s u.0; p = is_term_some (slot_under m p.p) f.p u.1; o = is_term_some (slot_under m p.o) f.o w.1 }
+    record { s = gives_some (slot_under m p.s) f.s u.0; p = gives_some (slot_under m p.p) f.p u.1; o = gives_some (slot_under m p.o) f.o w.1 }
 
 true_becomes : (m : Mapping) (p : Pattern) (f : Statement) → Becomes m p f → test.becomes m p f ≡ true
-true_becomes m p f h = both _ _ (both _ _ (some_is_term _ _ h.s) (some_is_term _ _ h.p)) (some_is_term _ _ h.o)
+true_becomes m p f h = both _ _ (both _ _ (some_gives _ _ h.s) (some_gives _ _ h.p)) (some_gives _ _ h.o)
 
 meets_true : (g : List Statement) (p : Pattern) (row : Pairs) → test.meets g p row ≡ true → Meets g (row_mapping row) p
 meets_true g p row e = let w = any_in (test.becomes (row_mapping row) p) g e in (w.0, w.1, becomes_true (row_mapping row) p w.0 w.2)

@@ -34,6 +34,7 @@ Extends B cs a m = (b : Mapping) × B b × Compatible a b × AllHold cs (merge a
 abbrev pub IsLeftJoin : (Mapping → Type 0) → (Mapping → Type 0) → List Cond → Mapping → Type 0
 IsLeftJoin A B cs m = (a : Mapping) × A a × (Extends B cs a m ⊎ ((m ≡ a) × ((n : Mapping) → Extends B cs a n → ⊥)))
 
+-- a row of the expression
 abbrev pub IsRow : List Statement → Alg → Mapping → Type 0
 IsRow g (Bgp ps) m = IsBgpRow g ps m
 IsRow g (LeftJoin a b cs) m = IsLeftJoin (IsRow g a) (IsRow g b) cs m

@@ -21,10 +21,12 @@ const_slot term = if is_blank term then [] else Const term ∷ []
 abbrev pub slots : Pairs → Term → List Slot
 slots row term = const_slot term ++ flat_map (var_slot term) row
 
+-- whether the place is a variable
 abbrev pub is_var : Slot → Bool
 is_var (Var v) = true
 is_var (Const c) = false
 
+-- the pattern of these places
 abbrev pub of_slots : Slot → Slot → Slot → Pattern
 of_slots s p o = record { s = s; p = p; o = o }
 
@@ -32,15 +34,19 @@ of_slots s p o = record { s = s; p = p; o = o }
 abbrev pub offered : Slot → Slot → Slot → List Pattern
 offered s p o = if is_place s && is_place p && (is_var s || is_var p || is_var o) then of_slots s p o ∷ [] else []
 
+-- the patterns of this subject and predicate with each of these objects
 abbrev pub with_objects : List Slot → Slot → Slot → List Pattern
 with_objects os s p = flat_map (offered s p) os
 
+-- those of this subject with each of these predicates and objects
 abbrev pub with_predicates : List Slot → List Slot → Slot → List Pattern
 with_predicates ps os s = flat_map (with_objects os s) ps
 
+-- those of each of these subjects, predicates and objects
 abbrev pub with_subjects : List Slot → List Slot → List Slot → List Pattern
 with_subjects ss ps os = flat_map (with_predicates ps os) ss
 
+-- the patterns with a variable and no blank constant that become the triple of these terms under the row
 unfoldable pub of_terms : Pairs → Term → Term → Term → List Pattern
 of_terms row s p o = with_subjects (slots row s) (slots row p) (slots row o)
 
@@ -48,8 +54,10 @@ of_terms row s p o = with_subjects (slots row s) (slots row p) (slots row o)
 abbrev pub touches : Pairs → Statement → Bool
 touches row f = list_any (λ e. same_term e.1 f.s || same_term e.1 f.p || same_term e.1 f.o) row
 
+-- those of a triple; there are none where no term of it is one of the row's
 abbrev pub of_statement : Pairs → Statement → List Pattern
 of_statement row f = if touches row f then of_terms row f.s f.p f.o else []
 
+-- those of each triple of the graph
 abbrev pub candidates : Pairs → List Statement → List Pattern
 candidates row g = flat_map (of_statement row) g

@@ -28,6 +28,7 @@ pub data Claim : Type 0 where
   -- a wanted row that does not bind the variable can be extended by these values
   Extension : ℕ → Name → Pairs → Claim
 
+-- a certificate: the class that it is about, and its claim
 pub record CertificateValue : Type 0 where
   pub class : Class
   pub claim : Claim
@@ -51,6 +52,7 @@ GoesWith Optional (Extension i x values) = Unit {0}
 abbrev pub BindsOne : Mapping → Mapping → Name → Type 0
 BindsOne m n x = (Binds m x × (Binds n x → ⊥)) ⊎ ((Binds m x → ⊥) × Binds n x)
 
+-- two wanted rows, of which exactly one binds x
 pub record ShowsDomains (rows : List Mapping) (i j : ℕ) (x : Name) : Type 0 where
   pub apart : i < j
   pub one : Mapping
@@ -59,9 +61,11 @@ pub record ShowsDomains (rows : List Mapping) (i j : ℕ) (x : Name) : Type 0 wh
   pub other_row : IsRowAt rows j other
   pub binds : BindsOne one other x
 
+-- no variable is bound in all wanted rows
 abbrev pub ShowsNoRoot : List Mapping → Type 0
 ShowsNoRoot rows = (x : Name) → BindsEach rows x → ⊥
 
+-- E(x) is within E(y) and within E(z), and neither of these is within the other
 pub record ShowsFork (rows : List Mapping) (x y z : Name) : Type 0 where
   pub seen : IsSeen rows x
   pub first : IsWithin rows x y
@@ -69,10 +73,12 @@ pub record ShowsFork (rows : List Mapping) (x y z : Name) : Type 0 where
   pub first_apart : IsWithin rows y z → ⊥
   pub second_apart : IsWithin rows z y → ⊥
 
+-- no pattern that is common at x contains x
 pub record ShowsUncovered (g : List Statement) (rows : List Mapping) (x : Name) : Type 0 where
   pub seen : IsSeen rows x
   pub none : (p : Pattern) → IsCommonAt g rows x p → In (vars p) x → ⊥
 
+-- an unwanted row meets whatever all wanted rows meet
 pub record ShowsAdmitted (g : List Statement) (rows unwanted : List Mapping) (j : ℕ) : Type 0 where
   -- the one domain of all wanted rows, which is that of the unwanted row too
   pub domain : List Name
@@ -84,6 +90,7 @@ pub record ShowsAdmitted (g : List Statement) (rows unwanted : List Mapping) (j 
   pub triples : (p : Pattern) → IsCommon g domain rows p → Meets g row p
   pub conditions : (c : Cond) → IsCommonCond domain rows c → MeetsCond row c
 
+-- a wanted row that lacks x is extended by values that meet whatever is common at x
 pub record ShowsExtension (g : List Statement) (rows : List Mapping) (i : ℕ) (x : Name) (values : Mapping) : Type 0 where
   pub seen : IsSeen rows x
   pub row : Mapping
@@ -107,6 +114,7 @@ IsShown g rows unwanted (Uncovered x) = ShowsUncovered g rows x
 IsShown g rows unwanted (Admitted j) = ShowsAdmitted g rows unwanted j
 IsShown g rows unwanted (Extension i x values) = ShowsExtension g rows i x (row_mapping values)
 
+-- the claim goes with its class, and holds of the examples
 pub record Shows (g : List Statement) (rows unwanted : List Mapping) (c : CertificateValue) : Type 0 where
   pub goes : GoesWith c.class c.claim
   pub shown : IsShown g rows unwanted c.claim

@@ -23,6 +23,7 @@ IsClassCond (conds.Bound v) = Unit {0}
 IsClassCond (conds.SameVar v w) = v ≡ w → ⊥
 IsClassCond (conds.SameConst v c) = is_blank c ≡ false
 
+-- the tree is one node
 abbrev pub HasNoChild : Tree → Type 0
 HasNoChild (node ps cs f) = f ≡ leaf
 

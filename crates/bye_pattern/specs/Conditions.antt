@@ -32,6 +32,7 @@ cond_expr (conds.Bound v) = IsBound v
 cond_expr (conds.SameVar v w) = Same (Var v) (Var w)
 cond_expr (conds.SameConst v c) = Same (Var v) (Const c)
 
+-- whether two tags are the same, or both are missing
 abbrev pub same_option : Option (List ℕ) → Option (List ℕ) → Bool
 same_option None None = true
 same_option None (Some t) = false
@@ -45,6 +46,7 @@ same_term (Blank a) (Blank b) = bytes_eq a b
 same_term (Lit a) (Lit b) = bytes_eq a.lexical b.lexical && bytes_eq a.datatype b.datatype && same_option a.tag b.tag
 same_term _ _ = false
 
+-- whether the term is of the kind
 abbrev pub is_kind : Kind → Term → Bool
 is_kind AnIri (Iri t) = true
 is_kind ABlank (Blank t) = true
@@ -56,10 +58,12 @@ abbrev pub same_value : Option Term → Option Term → Option Bool
 same_value (Some s) (Some t) = Some (same_term s t)
 same_value _ _ = None
 
+-- a kind test: an error where the place has no term
 abbrev pub kind_value : Kind → Option Term → Option Bool
 kind_value kind None = None
 kind_value kind (Some t) = Some (is_kind kind t)
 
+-- an error stays one
 abbrev pub not_value : Option Bool → Option Bool
 not_value None = None
 not_value (Some b) = Some (not b)
@@ -80,6 +84,7 @@ or_value None (Some true) = Some true
 or_value None (Some false) = None
 or_value None None = None
 
+-- the value of an expression under the mapping, and None for an error
 abbrev pub value : Mapping → Expr → Option Bool
 value m (IsBound v) = Some (is_some (m v))
 value m (Same s t) = same_value (slot_under m s) (slot_under m t)
@@ -92,12 +97,15 @@ value m (Or d e) = or_value (value m d) (value m e)
 abbrev pub HoldsExpr : Mapping → Expr → Type 0
 HoldsExpr m e = value m e ≡ Some true
 
+-- a plain condition holds
 abbrev pub Holds : Mapping → Cond → Type 0
 Holds m c = HoldsExpr m (cond_expr c)
 
+-- all plain conditions hold
 abbrev pub AllHold : List Cond → Mapping → Type 0
 AllHold cs m = AllByRecursion (Holds m) cs
 
+-- all expressions hold
 abbrev pub AllHoldExpr : List Expr → Mapping → Type 0
 AllHoldExpr es m = AllByRecursion (HoldsExpr m) es
 

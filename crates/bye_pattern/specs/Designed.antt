@@ -49,6 +49,7 @@ abbrev pub IsFirstBroken : (Rule → Type 0) → List Rule → Rule → Type 0
 IsFirstBroken Kept [] rule = ⊥
 IsFirstBroken Kept (r ∷ rs) rule = ((r ≡ rule) × (Kept r → ⊥)) ⊎ (Kept r × IsFirstBroken Kept rs rule)
 
+-- the rules in the order in which they are judged
 abbrev pub rules : List Rule
 rules = NoTriples ∷ NoNewVariable ∷ NotWellDesigned ∷ UnsafeCondition ∷ []
 
@@ -65,6 +66,7 @@ abbrev mutual
       ((rest : List ℕ) × (path ≡ n ∷ rest) × BreaksAt parent above beside t rest rule)
       ⊎ (IsDesigned parent above beside t × BreaksIn parent above (beside ++ tree_vars t) (n + 1) f path rule)
 
+-- the tree breaks this rule first, at the node of this path
 abbrev pub IsBroken : Tree → List ℕ → Rule → Type 0
 IsBroken t path rule = BreaksAt [] [] [] t path rule
 

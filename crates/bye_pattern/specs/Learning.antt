@@ -11,8 +11,8 @@ use Rattle.bye_pattern.specs.Fitting.{Fits, NoFit}
 use Rattle.bye_pattern.specs.Common.{IsCommon, IsCovered, IsUncovered}
 use Rattle.bye_pattern.specs.TrialOrder.{IsInTrialOrder}
 use Rattle.bye_pattern.specs.Tables.{TableValue}
-use Rattle.bye_pattern.specs.declared.learner.Learned.{Learned}
-use Rattle.bye_pattern.specs.declared.learner.Learned.TheVariants as learned
+use Rattle.bye_pattern.specs.declared.learned.Learned.{Learned}
+use Rattle.bye_pattern.specs.declared.learned.Learned.TheVariants as learned
 
 -- the rows of the table as mappings
 abbrev pub wanted_of : TableValue → List Mapping

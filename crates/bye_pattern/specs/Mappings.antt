@@ -10,6 +10,7 @@ use Rattle.bye_terms.specs.Members.{In}
 abbrev pub Name : Type 0
 Name = List ℕ
 
+-- a term or nothing for each name
 abbrev pub Mapping : Type 0
 Mapping = Name → Option Term
 
@@ -17,6 +18,7 @@ Mapping = Name → Option Term
 abbrev pub nothing : Mapping
 nothing v = None
 
+-- the mapping has a term for the name
 abbrev pub Binds : Mapping → Name → Type 0
 Binds m v = IsSome (m v)
 
@@ -28,6 +30,7 @@ Exactly vs m = (v : Name) → (Binds m v → In vs v) × (In vs v → Binds m v)
 abbrev pub Compatible : Mapping → Mapping → Type 0
 Compatible m n = (v : Name) (s t : Term) → m v ≡ Some s → n v ≡ Some t → s ≡ t
 
+-- the first term, where there is one, and else the second
 abbrev pub first_of : Option Term → Option Term → Option Term
 first_of None t = t
 first_of (Some s) t = Some s
@@ -36,6 +39,7 @@ first_of (Some s) t = Some s
 abbrev pub merge : Mapping → Mapping → Mapping
 merge m n v = first_of (m v) (n v)
 
+-- whether the name is one of these
 abbrev pub is_in : List Name → Name → Bool
 is_in vs v = list_any (λ w. bytes_eq w v) vs
 

@@ -30,6 +30,7 @@ IsNewAt p u v = In (own_vars u) v × (In p v → ⊥)
 abbrev pub HasClass : List Mapping → List Name → Tree → Name → Type 0
 HasClass rows p u x = IsSeen rows x × ((v : Name) → IsNewAt p u v ↔ AreAlike rows x v)
 
+-- a query of the class with OPTIONAL groups, for these wanted rows
 pub record InOptional (rows : List Mapping) (q : Select) : Type 0 where
   pub distinct : q.distinct ≡ true
   pub outer : q.outer ≡ []

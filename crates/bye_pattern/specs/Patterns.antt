@@ -13,6 +13,7 @@ pub record Pattern : Type 0 where
   pub p : Slot
   pub o : Slot
 
+-- the variable of a place, where it is one
 abbrev pub slot_vars : Slot → List Name
 slot_vars (Var v) = v ∷ []
 slot_vars (Const c) = []

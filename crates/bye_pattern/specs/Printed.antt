@@ -9,6 +9,7 @@ use Rattle.bye_pattern.specs.Patterns.{Pattern}
 use Rattle.bye_pattern.specs.Conditions.{Kind, AnIri, ABlank, ALiteral, Expr, IsBound, Same, KindOf, Not, And, Or, cond_expr}
 use Rattle.bye_pattern.specs.Trees.{Tree, node, Forest, leaf, more, Select}
 
+-- a variable after its mark, or the spelling of a constant
 abbrev pub slot_text : Slot → List ℕ
 slot_text (Var v) = codes "?" ++ v
 slot_text (Const c) = term_text c
@@ -17,11 +18,13 @@ slot_text (Const c) = term_text c
 abbrev pub pattern_text : Pattern → List ℕ
 pattern_text p = slot_text p.s ++ codes " " ++ slot_text p.p ++ codes " " ++ slot_text p.o ++ codes " ."
 
+-- the name of a kind test, with its bracket
 abbrev pub kind_text : Kind → List ℕ
 kind_text AnIri = codes "isIRI("
 kind_text ABlank = codes "isBlank("
 kind_text ALiteral = codes "isLiteral("
 
+-- whether the expression is written as a call
 abbrev pub is_call : Expr → Bool
 is_call (IsBound v) = true
 is_call (Same s t) = true
@@ -35,6 +38,7 @@ abbrev pub bracketed : Bool → List ℕ → List ℕ
 bracketed true text = text
 bracketed false text = codes "(" ++ text ++ codes ")"
 
+-- an expression
 abbrev pub expr_text : Expr → List ℕ
 expr_text (IsBound v) = codes "bound(?" ++ v ++ codes ")"
 expr_text (Same s t) = codes "sameTerm(" ++ slot_text s ++ codes ", " ++ slot_text t ++ codes ")"
@@ -51,6 +55,7 @@ triple_line margin p = margin ++ pattern_text p ++ codes "\n"
 unfoldable pub root_line : Pattern → List ℕ
 root_line p = triple_line (codes "  ") p
 
+-- the line of a condition
 abbrev pub filter_line : List ℕ → Expr → List ℕ
 filter_line margin e = margin ++ codes "FILTER (" ++ expr_text e ++ codes ")\n"
 
@@ -64,6 +69,7 @@ abbrev mutual
   forest_lines margin leaf = []
   forest_lines margin (more t f) = margin ++ codes "OPTIONAL {\n" ++ tree_lines (margin ++ codes "  ") [] t ++ margin ++ codes "}\n" ++ forest_lines margin f
 
+-- DISTINCT, where it is asked for
 abbrev pub distinct_text : Bool → List ℕ
 distinct_text true = codes " DISTINCT"
 distinct_text false = []
@@ -72,5 +78,6 @@ distinct_text false = []
 abbrev pub names_text : List Name → List ℕ
 names_text vs = flat_map (λ v. codes " ?" ++ v) vs
 
+-- the query: SELECT, its variables, and the lines of its group
 abbrev pub query_text : Select → List ℕ
 query_text s = codes "SELECT" ++ distinct_text s.distinct ++ names_text s.vars ++ codes "\nWHERE {\n" ++ tree_lines (codes "  ") s.outer s.tree ++ codes "}\n"

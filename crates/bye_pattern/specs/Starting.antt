@@ -23,6 +23,7 @@ mutual
     none : Subdomains
     also : Domain → Subdomains → Subdomains
 
+-- the variable of a node
 abbrev pub label : Domain → Name
 label (domain x ds) = x
 
@@ -91,6 +92,7 @@ IsTriedBefore header (conds.SameConst v c) (conds.Bound w) = ⊥
 IsTriedBefore header (conds.SameConst v c) (conds.SameVar w x) = ⊥
 IsTriedBefore header (conds.SameConst v c) (conds.SameConst w d) = IsBefore header v w
 
+-- each condition is tried before all that come later
 abbrev pub AreInTrialOrder : List Name → List Cond → Type 0
 AreInTrialOrder header [] = Unit {0}
 AreInTrialOrder header (c ∷ cs) = AllByRecursion (IsTriedBefore header c) cs × AreInTrialOrder header cs

@@ -22,6 +22,7 @@ abbrev pub is_header_name : List ℕ → Bool
 is_header_name [] = false
 is_header_name (c ∷ cs) = is_header_char c && list_all is_header_char cs
 
+-- the name may stand in a header
 abbrev pub IsHeaderName : Name → Type 0
 IsHeaderName name = is_header_name name ≡ true
 
@@ -54,6 +55,7 @@ line_text cells = tabbed cells ++ codes "\n"
 abbrev pub name_text : Name → List ℕ
 name_text name = codes "?" ++ name
 
+-- the line of the header
 abbrev pub header_text : List Name → List ℕ
 header_text names = line_text (map name_text names)
 

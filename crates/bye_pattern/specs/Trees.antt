@@ -15,12 +15,15 @@ mutual
     leaf : Forest
     more : Tree → Forest → Forest
 
+-- the triple patterns of the root
 abbrev pub own_triples : Tree → List Pattern
 own_triples (node ps cs f) = ps
 
+-- the conditions of the root
 abbrev pub own_conds : Tree → List Cond
 own_conds (node ps cs f) = cs
 
+-- the variables of the root's triple patterns
 abbrev pub own_vars : Tree → List Name
 own_vars t = all_vars (own_triples t)
 

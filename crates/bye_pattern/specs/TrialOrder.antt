@@ -18,6 +18,7 @@ distinct_count (v ∷ vs) = cond (is_in vs v) (distinct_count vs) (1 + distinct_
 abbrev pub line_bytes : Pattern → List ℕ
 line_bytes p = encode_utf8_all (root_line p)
 
+-- the order of two patterns
 abbrev pub trial_cmp : Pattern → Pattern → Ordering
 trial_cmp p q = ordering_then (nat_cmp (distinct_count (vars p)) (distinct_count (vars q))) (slice_cmp nat_cmp (line_bytes p) (line_bytes q))
 

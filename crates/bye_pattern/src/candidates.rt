@@ -4,8 +4,9 @@ ghost use Rattle.std.specs.Prelude.{◌≡◌, ◌++◌, ◌∷◌, [], ◌||◌
 ghost use Rattle.bye_pattern.specs.Conditions.{same_term};
 ghost use Rattle.bye_pattern.specs.Candidates as spec;
 
+use crate::constant::Constant;
 use crate::pattern::TriplePattern;
-use crate::slot::{Constant, Slot};
+use crate::slot::Slot;
 use bye_terms::{Memory, Term, Triple, Var, push_item};
 use std::alloc::Global;
 
@@ -59,7 +60,8 @@ fn has_var(s: &Slot, p: &Slot, o: &Slot) -> bool
     s.is_var() || p.is_var() || o.is_var()
 }
 
-fn offer(
+/// Puts the pattern of these three at the end, where it is one and has a variable.
+fn push_pattern(
     alloc: Global,
     out: &mut Vec<TriplePattern>,
     s: &Slot,
@@ -87,7 +89,7 @@ fn push_objects(
     ensures { OnOk result (out.new.items ≡ out.old.items ++ spec.with_objects os.now s.now p.now) }
 {
     for o in os {
-        offer(alloc, out, s, p, o)?;
+        push_pattern(alloc, out, s, p, o)?;
     }
     Ok(())
 }

@@ -16,7 +16,7 @@ fn end_of(others: &[Var]) -> char
 /// Reads a row line at the front: an IRI for each variable.
 /// Where none stands there, what is left of the text is open.
 #[tactic(auto, unfolding(crate::specs::Reading::cells_at))]
-pub fn cells(
+pub fn read_cells(
     alloc: Global,
     vars: &[Var],
     rest: &mut Cursor<'_>,

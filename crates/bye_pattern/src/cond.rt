@@ -1,4 +1,4 @@
-use crate::slot::Constant;
+use crate::constant::Constant;
 use bye_terms::Var;
 
 /// A plain condition of a FILTER (SPARQL 1.1 Query, section 17.4.1): that a variable is bound, that two

@@ -32,7 +32,7 @@ fn is_header_name(text: &str) -> bool
 
 /// The name that a field of the header is.
 #[tactic(auto, unfolding(crate::specs::Reading::name_of))]
-fn name(alloc: Global, field: &str) -> Result<Option<Var>, Memory>
+fn field_name(alloc: Global, field: &str) -> Result<Option<Var>, Memory>
     ensures { IfOk result (λ o. o ≡ name_of (chars field.now)) }
 {
     let mut rest = Cursor::new(field);
@@ -46,21 +46,22 @@ fn name(alloc: Global, field: &str) -> Result<Option<Var>, Memory>
     Ok(Var::from_name(Text::copy_of(alloc, text)?))
 }
 
-fn has(vars: &[Var], var: &Var) -> bool
+/// Whether the variable is one of these.
+fn contains(vars: &[Var], var: &Var) -> bool
     ensures { IsTrue result ↔ Contains vars.now var.now }
 {
     vars.iter().any(|v| v.same(var))
 }
 
 /// Puts the name of a field at the end, where the field is a new name.
-fn add(alloc: Global, vars: &mut Vec<Var>, field: &str) -> Result<bool, Memory>
+fn add_name(alloc: Global, vars: &mut Vec<Var>, field: &str) -> Result<bool, Memory>
     ensures added { IfOk result (λ ok. ok ≡ true → IsAdded vars.old.items (chars field.now) vars.new.items) }
     ensures refused { IfOk result (λ ok. ok ≡ false → IsRefused vars.old.items (chars field.now)) }
 {
-    let Some(var) = name(alloc, field)? else {
+    let Some(var) = field_name(alloc, field)? else {
         return Ok(false);
     };
-    if has(vars.as_slice(), &var) {
+    if contains(vars.as_slice(), &var) {
         return Ok(false);
     }
     push_item(vars, var)?;
@@ -68,7 +69,7 @@ fn add(alloc: Global, vars: &mut Vec<Var>, field: &str) -> Result<bool, Memory>
 }
 
 /// The names of a header line, which stands here without its end. None exactly where it is no header.
-pub fn header(alloc: Global, line: &str) -> Result<Option<Vec<Var>>, Memory>
+pub fn read_header(alloc: Global, line: &str) -> Result<Option<Vec<Var>>, Memory>
     ensures some { IfOk result (λ o. IfSome o (λ vars. IsHeaderLine (chars line.now) vars.items)) }
     ensures none { IfOk result (λ o. IfNone o
         ((names : List Name) → IsHeaderLine (chars line.now) names → ⊥)) }
@@ -76,11 +77,11 @@ pub fn header(alloc: Global, line: &str) -> Result<Option<Vec<Var>>, Memory>
     let mut vars = Vec::new(alloc);
     let mut rest = Cursor::new(line);
     while let Some(field) = rest.until('\t') {
-        if !add(alloc, &mut vars, field)? {
+        if !add_name(alloc, &mut vars, field)? {
             return Ok(None);
         }
     }
-    if !add(alloc, &mut vars, rest.rest())? {
+    if !add_name(alloc, &mut vars, rest.rest())? {
         return Ok(None);
     }
     Ok(Some(vars))

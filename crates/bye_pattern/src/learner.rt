@@ -11,6 +11,7 @@ ghost use Rattle.bye_pattern.specs.Covering as covering;
 ghost use Rattle.bye_pattern.specs.Learning.{wanted_of, AreFull, IsStrongest, IsLearned};
 
 use crate::candidates::candidates;
+use crate::learned::Learned;
 use crate::meeting::meets_all;
 use crate::pattern::TriplePattern;
 use crate::ranked::in_trial_order;
@@ -20,15 +21,8 @@ use crate::table::Table;
 use bye_terms::{Memory, Triple, Var, push_item};
 use std::alloc::Global;
 
-/// What was learned: the triple patterns of the query, or the first variable that none contains.
-#[derive(Debug, Drop)]
-pub enum Learned {
-    Query(Vec<TriplePattern>),
-    Uncovered(Var),
-}
-
 /// The candidates of the first row that hold in all rows.
-fn common(
+fn common_candidates(
     alloc: Global,
     graph: &[Triple],
     first: &Row,
@@ -88,7 +82,7 @@ fn strongest(alloc: Global, graph: &[Triple], wanted: &Table) -> Result<Vec<Trip
         → IsStrongest graph.now wanted.now v.items) }
 {
     let rows = wanted.rows();
-    let kept = common(alloc, graph, &rows[0], rows)?;
+    let kept = common_candidates(alloc, graph, &rows[0], rows)?;
     in_trial_order(alloc, kept)
 }
 

@@ -5,8 +5,10 @@ mod candidates;
 mod cells;
 mod class;
 mod cond;
+mod constant;
 mod header;
 mod laws;
+mod learned;
 mod learner;
 mod meeting;
 mod node;
@@ -17,23 +19,27 @@ mod row;
 mod rule;
 mod slot;
 mod table;
+mod table_err;
 mod worked;
 
 pub use class::Class;
 pub use cond::Cond;
+pub use constant::Constant;
 pub use laws::{
     answers_bind_the_tree, answers_of_one_group, bound_is_true, broken_or_designed,
     classes_at_one_node, common_patterns_fit, designed_at_once, domains_by_numbers,
     dropping_keeps_answers, fitting_is_meeting, none_fits_where_uncovered, one_table,
 };
-pub use learner::{Learned, learn};
+pub use learned::Learned;
+pub use learner::learn;
 pub use node::Node;
 pub use pattern::TriplePattern;
 pub use printer::write_conjunction;
 pub use row::Row;
 pub use rule::Rule;
-pub use slot::{Constant, Slot};
-pub use table::{Table, TableErr, read_table};
+pub use slot::Slot;
+pub use table::{Table, read_table};
+pub use table_err::TableErr;
 pub use worked::{
     claims_of_admitted, claims_of_domains, claims_of_extension, claims_of_fork, claims_of_no_root,
     claims_of_uncovered, conditions_are_tried_first, designed_trees, errors_drop_rows,

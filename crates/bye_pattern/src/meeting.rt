@@ -32,7 +32,7 @@ fn value_of<'a>(row: &'a [(Var, Term)], name: &Var) -> Option<&'a Term>
 
 /// Whether the place stands for the term under the row.
 fn is_under(row: &[(Var, Term)], slot: &Slot, term: &Term) -> bool
-    ensures { result ≡ spec.is_term (slot_under (row_mapping row.now) slot.now) term.now }
+    ensures { result ≡ spec.gives (slot_under (row_mapping row.now) slot.now) term.now }
 {
     match slot {
         Slot::Const(c) => c.term().same(term),

@@ -1,85 +1,31 @@
 //! The written text of a query of one node without conditions (SPARQL 1.1 Query, section 19.8).
 
-ghost use Rattle.std.specs.Prelude.{◌≡◌, ◌++◌, [], OnOk, IfOk, MatchOption, codes, ℕ, List};
+ghost use Rattle.std.specs.Prelude.{◌≡◌, ◌++◌, [], OnOk, IfOk, codes};
 ghost use Rattle.std.specs.List.{flat_map};
-ghost use Rattle.bye_terms.specs.Spellings as spelling;
+ghost use Rattle.bye_terms.specs.Spellings.{term_text};
 ghost use Rattle.bye_pattern.specs.Printed as spec;
 ghost use Rattle.bye_pattern.specs.Trees.{node, leaf, plain_select};
 
 use crate::pattern::TriplePattern;
 use crate::slot::Slot;
-use bye_terms::{Cursor, Iri, Literal, Memory, Tag, Term, Text, Var};
+use bye_lex::{Style, written_as_ordered};
+use bye_terms::{Memory, Term, Text, Var};
 use std::alloc::Global;
 
-fn push_escaped_char(out: &mut Text, c: char) -> Result<(), Memory>
-    ensures { OnOk result (out.new ≡ out.old ++ spelling.escaped_char c) }
+/// Puts the spelling of a term at the end.
+fn push_term(alloc: Global, out: &mut Text, term: &Term) -> Result<(), Memory>
+    ensures { OnOk result (out.new ≡ out.old ++ term_text term.now) }
 {
-    match c {
-        '"' => out.push_ascii("\\\""),
-        '\\' => out.push_ascii("\\\\"),
-        '\n' => out.push_ascii("\\n"),
-        '\r' => out.push_ascii("\\r"),
-        _ => out.push_char(c),
+    written_as_ordered();
+    let mut spelled = Vec::new(alloc);
+    bye_lex::push_term(alloc, &mut spelled, term.as_rdf(), Style::Query)?;
+    match str::from_utf8(spelled.as_slice()) {
+        Ok(text) => out.push_str(text),
+        Err(_) => unreachable!(),
     }
 }
 
-fn push_escaped(out: &mut Text, text: &Text) -> Result<(), Memory>
-    ensures { OnOk result (out.new ≡ out.old ++ spelling.escaped text.now) }
-{
-    let mut rest = Cursor::new(text.as_str());
-    while let Some(c) = rest.next() {
-        push_escaped_char(out, c)?;
-    }
-    Ok(())
-}
-
-fn push_iri(out: &mut Text, iri: &Iri) -> Result<(), Memory>
-    ensures { OnOk result (out.new ≡ out.old ++ (codes "<" ++ iri.now ++ codes ">")) }
-{
-    out.push_ascii("<")?;
-    out.push_text(iri.text())?;
-    out.push_ascii(">")
-}
-
-fn push_suffix(out: &mut Text, tag: &Option<Tag>, datatype: &Iri) -> Result<(), Memory>
-    ensures { OnOk result (out.new ≡ out.old ++ spelling.suffix_text tag.now datatype.now) }
-{
-    match tag {
-        Some(tag) => {
-            out.push_ascii("@")?;
-            out.push_text(tag.text())
-        }
-        None if datatype.is_xsd_string() => Ok(()),
-        None => {
-            out.push_ascii("^^")?;
-            push_iri(out, datatype)
-        }
-    }
-}
-
-fn push_literal(out: &mut Text, literal: &Literal) -> Result<(), Memory>
-    ensures { OnOk result (out.new ≡ out.old ++ spelling.literal_text literal.now) }
-{
-    out.push_ascii("\"")?;
-    push_escaped(out, literal.lexical())?;
-    out.push_ascii("\"")?;
-    push_suffix(out, literal.tag(), literal.datatype())
-}
-
-fn push_term(out: &mut Text, term: &Term) -> Result<(), Memory>
-    ensures { OnOk result (out.new ≡ out.old ++ spelling.term_text term.now) }
-{
-    match term {
-        Term::Iri(iri) => push_iri(out, iri),
-        Term::Blank(label) => {
-            out.push_ascii("_:")?;
-            out.push_text(label.text())
-        }
-        Term::Lit(literal) => push_literal(out, literal),
-    }
-}
-
-fn push_slot(out: &mut Text, slot: &Slot) -> Result<(), Memory>
+fn push_slot(alloc: Global, out: &mut Text, slot: &Slot) -> Result<(), Memory>
     ensures { OnOk result (out.new ≡ out.old ++ spec.slot_text slot.now) }
 {
     match slot {
@@ -87,29 +33,29 @@ fn push_slot(out: &mut Text, slot: &Slot) -> Result<(), Memory>
             out.push_ascii("?")?;
             out.push_text(v.name())
         }
-        Slot::Const(c) => push_term(out, c.term()),
+        Slot::Const(c) => push_term(alloc, out, c.term()),
     }
 }
 
 #[tactic(auto, unfolding(crate::specs::Printed::root_line))]
 /// Puts the line of a triple pattern within the outermost group at the end.
-pub fn push_line(out: &mut Text, pattern: &TriplePattern) -> Result<(), Memory>
+pub fn push_line(alloc: Global, out: &mut Text, pattern: &TriplePattern) -> Result<(), Memory>
     ensures { OnOk result (out.new ≡ out.old ++ spec.root_line pattern.now) }
 {
     out.push_ascii("  ")?;
-    push_slot(out, pattern.s())?;
+    push_slot(alloc, out, pattern.s())?;
     out.push_ascii(" ")?;
-    push_slot(out, pattern.p())?;
+    push_slot(alloc, out, pattern.p())?;
     out.push_ascii(" ")?;
-    push_slot(out, pattern.o())?;
+    push_slot(alloc, out, pattern.o())?;
     out.push_ascii(" .\n")
 }
 
-fn push_lines(out: &mut Text, triples: &[TriplePattern]) -> Result<(), Memory>
+fn push_lines(alloc: Global, out: &mut Text, triples: &[TriplePattern]) -> Result<(), Memory>
     ensures { OnOk result (out.new ≡ out.old ++ flat_map spec.root_line triples.now) }
 {
     for p in triples {
-        push_line(out, p)?;
+        push_line(alloc, out, p)?;
     }
     Ok(())
 }
@@ -143,7 +89,7 @@ pub fn write_conjunction(
     out.push_ascii("SELECT DISTINCT")?;
     push_names(&mut out, vars)?;
     out.push_ascii("\nWHERE {\n")?;
-    push_lines(&mut out, triples)?;
+    push_lines(alloc, &mut out, triples)?;
     out.push_ascii("}\n")?;
     Ok(out)
 }

@@ -68,7 +68,7 @@ impl Ranked {
     {
         let variables = count_variables(pattern.s(), pattern.p(), pattern.o());
         let mut line = Text::new(alloc);
-        push_line(&mut line, &pattern)?;
+        push_line(alloc, &mut line, &pattern)?;
         Ok(Ranked {
             variables,
             line,
@@ -111,7 +111,7 @@ fn sort(ranked: &mut Vec<Ranked>)
 }
 
 /// Whether the pattern is one of these.
-fn holds(patterns: &[TriplePattern], one: &TriplePattern) -> bool
+fn contains(patterns: &[TriplePattern], one: &TriplePattern) -> bool
     ensures { IsTrue result ↔ Contains patterns.now one.now }
 {
     patterns.iter().any(|p| p.same(one))
@@ -125,7 +125,7 @@ fn each_once(alloc: Global, ranked: &[Ranked]) -> Result<Vec<TriplePattern>, Mem
 {
     let mut out = Vec::new(alloc);
     for r in ranked {
-        if !holds(out.as_slice(), r.pattern()) {
+        if !contains(out.as_slice(), r.pattern()) {
             push_item(&mut out, r.pattern().copy(alloc)?)?;
         }
     }

@@ -3,9 +3,10 @@ ghost use Rattle.std.specs.Str.{chars};
 ghost use Rattle.bye_pattern.specs.Mappings.{Pairs};
 ghost use Rattle.bye_pattern.specs.Tables.{TableValue, IsHeader, IsRows, IsTable, IsFirstTable};
 
-use crate::cells::cells;
-use crate::header::header;
+use crate::cells::read_cells;
+use crate::header::read_header;
 use crate::row::Row;
+use crate::table_err::TableErr;
 use bye_terms::{Cursor, Memory, Var, push_item};
 use std::alloc::Global;
 use std::marker::Model;
@@ -42,24 +43,6 @@ impl Table {
     }
 }
 
-/// Why a table document was not read.
-#[derive(Debug, Drop)]
-pub enum TableErr {
-    NotFirstTable,
-    Memory,
-}
-
-impl From<Memory> for TableErr {
-    ghost use Rattle.bye_pattern.specs.declared.table.TableErr.TheVariants as faults;
-    ghost use Rattle.std.specs.Prelude.{◌≡◌};
-
-    ghost from_gives = { λ _ e. e ≡ faults.Memory };
-
-    fn from(_: Memory) -> Self {
-        TableErr::Memory
-    }
-}
-
 /// The rows whose lines the text is.
 fn read_rows(alloc: Global, vars: &[Var], mut rest: Cursor<'_>) -> Result<Vec<Row>, TableErr>
     requires { IsHeader vars.now }
@@ -69,7 +52,7 @@ fn read_rows(alloc: Global, vars: &[Var], mut rest: Cursor<'_>) -> Result<Vec<Ro
 {
     let mut rows = Vec::new(alloc);
     while !rest.is_empty() {
-        let Some(pairs) = cells(alloc, vars, &mut rest)? else {
+        let Some(pairs) = read_cells(alloc, vars, &mut rest)? else {
             return Err(TableErr::NotFirstTable);
         };
         push_item(&mut rows, Row::new(pairs))?;
@@ -86,7 +69,7 @@ fn read_text(alloc: Global, text: &str) -> Result<Table, TableErr>
     let Some(line) = rest.until('\n') else {
         return Err(TableErr::NotFirstTable);
     };
-    let Some(vars) = header(alloc, line)? else {
+    let Some(vars) = read_header(alloc, line)? else {
         return Err(TableErr::NotFirstTable);
     };
     match read_rows(alloc, vars.as_slice(), rest) {

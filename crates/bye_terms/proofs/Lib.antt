@@ -4,3 +4,4 @@ pub mod Texts
 pub mod Orders
 pub mod Escapes
 pub mod Readings
+pub mod RdfTerms

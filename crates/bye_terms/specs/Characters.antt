@@ -5,12 +5,15 @@ use Rattle.std.specs.Prelude.{ℕ, Bool, ◌&&◌, ◌||◌, not, nat_le, nat_lt
 abbrev pub within : ℕ → ℕ → ℕ → Bool
 within low high c = nat_le low c && nat_le c high
 
+-- a letter of ASCII
 abbrev pub is_letter : ℕ → Bool
 is_letter c = within 65 90 c || within 97 122 c
 
+-- a digit of ASCII
 abbrev pub is_digit : ℕ → Bool
 is_digit c = within 48 57 c
 
+-- a letter or a digit of ASCII
 abbrev pub is_letter_or_digit : ℕ → Bool
 is_letter_or_digit c = is_letter c || is_digit c
 

@@ -8,3 +8,4 @@ pub mod Terms
 pub mod Literals
 pub mod Iris
 pub mod Members
+pub mod Valid

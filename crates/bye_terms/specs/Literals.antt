@@ -16,8 +16,10 @@ lang_string = codes "http://www.w3.org/1999/02/22-rdf-syntax-ns#langString"
 abbrev pub xsd_string : List ℕ
 xsd_string = codes "http://www.w3.org/2001/XMLSchema#string"
 
+-- whether the datatype is rdf:langString
 abbrev pub is_lang_string : List ℕ → Bool
 is_lang_string datatype = bytes_eq datatype lang_string
 
+-- whether the datatype is xsd:string
 abbrev pub is_xsd_string : List ℕ → Bool
 is_xsd_string datatype = bytes_eq datatype xsd_string

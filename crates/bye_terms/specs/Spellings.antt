@@ -10,6 +10,7 @@ use Rattle.bye_terms.specs.declared.term.Term.TheVariants.{Iri, Blank, Lit}
 abbrev pub escaped_char : ℕ → List ℕ
 escaped_char c = cond (c == 34) (codes "\\\"") (cond (c == 92) (codes "\\\\") (cond (c == 10) (codes "\\n") (cond (c == 13) (codes "\\r") (c ∷ []))))
 
+-- a text within quotes
 abbrev pub escaped : List ℕ → List ℕ
 escaped text = flat_map escaped_char text
 
@@ -18,14 +19,17 @@ abbrev pub suffix_text : Option (List ℕ) → List ℕ → List ℕ
 suffix_text (Some tag) datatype = codes "@" ++ tag
 suffix_text None datatype = cond (is_xsd_string datatype) [] (codes "^^<" ++ datatype ++ codes ">")
 
+-- a string in its quotes, with what follows them
 abbrev pub literal_text : LiteralValue → List ℕ
 literal_text literal = codes "\"" ++ escaped literal.lexical ++ codes "\"" ++ suffix_text literal.tag literal.datatype
 
+-- an IRI in its brackets, a blank node's label after `_:`, or a literal
 abbrev pub term_text : Term → List ℕ
 term_text (Iri text) = codes "<" ++ text ++ codes ">"
 term_text (Blank label) = codes "_:" ++ label
 term_text (Lit literal) = literal_text literal
 
+-- the spelling of a literal, in UTF-8
 abbrev pub literal_bytes : LiteralValue → List ℕ
 literal_bytes literal = encode_utf8_all (literal_text literal)
 

@@ -10,11 +10,13 @@ pub record Statement : Type 0 where
   pub p : Term
   pub o : Term
 
+-- whether the term is an IRI
 abbrev pub is_iri_term : Term → Bool
 is_iri_term (Iri text) = true
 is_iri_term (Blank label) = false
 is_iri_term (Lit literal) = false
 
+-- whether the term is a blank node
 abbrev pub is_blank : Term → Bool
 is_blank (Iri text) = false
 is_blank (Blank label) = true

@@ -18,45 +18,42 @@ impl<'a> Model for Cursor<'a> {
 }
 
 impl<'a> Cursor<'a> {
+    /// At the front of a text.
     pub fn new(rest: &'a str) -> Cursor<'a>
         ensures { result ≡ chars rest.now }
     {
         Cursor { rest }
     }
 
-    pub fn next(&mut self) -> Option<char>
-        ensures { MatchOption result ((self.old ≡ []) × (self.new ≡ [])) (λ c. self.old ≡ c ∷ self.new) }
-    {
-        // Its clause says that the bytes are UTF-8.
-        let _bytes = self.rest.as_bytes();
-        let mut rest = self.rest.chars();
-        let next = rest.next();
-        self.rest = rest.as_str();
-        next
-    }
-
+    /// The text that is left.
     pub fn rest(&self) -> &'a str
         ensures { chars result.now ≡ self.now }
     {
         self.rest
     }
 
+    /// The next character, which is taken.
+    pub fn next(&mut self) -> Option<char>
+        ensures { MatchOption result ((self.old ≡ []) × (self.new ≡ [])) (λ c. self.old ≡ c ∷ self.new) }
+    {
+        let mut rest = self.rest().chars();
+        let next = rest.next();
+        self.rest = rest.as_str();
+        next
+    }
+
     /// Whether no character is left.
     pub fn is_empty(&self) -> bool
         ensures { IsTrue result ↔ (self.now ≡ []) }
     {
-        // Its clause says that the bytes are UTF-8.
-        let _bytes = self.rest.as_bytes();
-        self.rest.is_empty()
+        self.rest().is_empty()
     }
 
     /// How many bytes are left.
     pub fn len(&self) -> usize
         ensures { result ≡ length (encode_utf8_all self.now) }
     {
-        // Its clause says that the bytes are UTF-8.
-        let _bytes = self.rest.as_bytes();
-        self.rest.len()
+        self.rest().len()
     }
 
     /// Whether the next character is this one, which is taken then.
@@ -79,9 +76,7 @@ impl<'a> Cursor<'a> {
         ensures parts { option_map (λ s. (chars s.now, self.new)) result ≡ until_at c self.old }
         ensures kept { IfNone result (self.new ≡ self.old) }
     {
-        // Its clause says that the bytes are UTF-8.
-        let _bytes = self.rest.as_bytes();
-        match self.rest.split_once(c) {
+        match self.rest().split_once(c) {
             Some((before, after)) => {
                 self.rest = after;
                 Some(before)

@@ -1,4 +1,5 @@
 ghost use Rattle.std.specs.Prelude.{◌≡◌, List, ℕ, IfOk, IfSome, IfNone, IsTrue, true, false, ◌↔◌};
+ghost use Rattle.std.specs.Str.{all_scalars};
 ghost use Rattle.bye_terms.specs.Names.{is_label};
 
 use crate::memory::Memory;
@@ -54,8 +55,9 @@ impl Label {
     pub fn text(&self) -> &Text
         ensures text { result.now ≡ self.now }
         ensures valid { IsTrue (is_label self.now) }
+        ensures scalars { IsTrue (all_scalars self.now) }
     {
-        &self.text
+        self.text.as_unicode()
     }
 
     /// Whether the two are equal, character by character.

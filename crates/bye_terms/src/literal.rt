@@ -3,6 +3,8 @@ ghost use Rattle.std.specs.Str.{encode_utf8_all};
 ghost use Rattle.bye_terms.specs.Literals.{is_lang_string, lang_string, xsd_string};
 ghost use Rattle.bye_terms.specs.Pieces.{left_of};
 ghost use Rattle.bye_terms.specs.Spellings.{escaped, literal_bytes};
+ghost use Rattle.bye_terms.specs.Valid.{IsRdfTerm};
+ghost use Rattle.bye_terms.specs.declared.term.Term.TheVariants as terms;
 
 use crate::iri::Iri;
 use crate::memory::Memory;
@@ -101,6 +103,19 @@ impl Literal {
             datatype,
             tag: Some(tag),
         })
+    }
+
+    /// The literal, as one of RDF.
+    pub fn as_rdf(&self) -> &Literal
+        ensures same { result.now ≡ self.now }
+        ensures valid { IsRdfTerm (terms.Lit self.now) }
+    {
+        let _lexical = self.lexical.as_unicode();
+        match &self.tag {
+            Some(tag) => tag.text(),
+            None => self.datatype.text(),
+        };
+        self
     }
 
     /// The lexical form.

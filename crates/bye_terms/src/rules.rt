@@ -130,83 +130,86 @@ mod tests {
 
     #[test]
     fn tells_iris(rt: HostRuntime) {
-        for text in [
-            "a:",
-            "http://e/a",
-            "urn:x:1",
-            "a+.-9:#?\u{E9}",
-            "A:\u{10FFFF}",
+        for (text, want) in [
+            ("a:", true),
+            ("urn:x:1", true),
+            ("a+.-9:#?\u{E9}", true),
+            ("A:\u{10FFFF}", true),
+            ("", false),
+            ("a", false),
+            (":", false),
+            ("1a:", false),
+            ("a b:", false),
+            ("a:b c", false),
+            ("a:<", false),
+            ("a:\\", false),
+            ("a:\n", false),
+            ("/a", false),
+            ("\u{E9}:", false),
         ] {
-            assert!(rt; is_iri(text), "{text:?}");
-        }
-        for text in [
-            "", "a", ":", "1a:", "a b:", "a:b c", "a:<", "a:>", "a:\"", "a:{", "a:}", "a:|", "a:^",
-            "a:`", "a:\\", "a:\n", "/a", "a/b", "\u{E9}:",
-        ] {
-            assert!(rt; !is_iri(text), "{text:?}");
+            assert_eq!(rt; is_iri(text), want, "{text:?}");
         }
     }
 
     #[test]
     fn tells_labels(rt: HostRuntime) {
-        for text in [
-            "a", "0", "_", ":", "a.b", "a..b", "a-", "a\u{B7}", "\u{C0}", "a:b",
+        for (text, want) in [
+            ("0", true),
+            ("_", true),
+            (":", true),
+            ("a..b", true),
+            ("a-", true),
+            ("a\u{B7}", true),
+            ("\u{C0}", true),
+            ("", false),
+            (".", false),
+            ("a.", false),
+            ("-a", false),
+            ("\u{B7}a", false),
+            ("a b", false),
+            ("\u{D7}", false),
         ] {
-            assert!(rt; is_label(text), "{text:?}");
-        }
-        for text in ["", ".", "a.", "-", "-a", "\u{B7}a", "a b", "a/", "\u{D7}"] {
-            assert!(rt; !is_label(text), "{text:?}");
+            assert_eq!(rt; is_label(text), want, "{text:?}");
         }
     }
 
     #[test]
     fn tells_tags(rt: HostRuntime) {
-        for text in ["a", "Z", "en", "en-US", "a-1", "a-b2c-3", "zz-0-9-z"] {
-            assert!(rt; is_tag(text), "{text:?}");
-        }
-        for text in [
-            "", "-", "-a", "a-", "a--b", "a-b-", "1", "1a", "a1", "a_b", "a-_", "a b", "@en", "a[",
-            "a-/",
+        for (text, want) in [
+            ("Z", true),
+            ("en-US", true),
+            ("zz-0-9-z", true),
+            ("", false),
+            ("-a", false),
+            ("a-", false),
+            ("a--b", false),
+            ("1a", false),
+            ("a1", false),
+            ("a-_", false),
+            ("@en", false),
         ] {
-            assert!(rt; !is_tag(text), "{text:?}");
+            assert_eq!(rt; is_tag(text), want, "{text:?}");
         }
     }
 
     #[test]
     fn tells_names(rt: HostRuntime) {
-        for text in [
-            "x",
-            "0",
-            "_",
-            "x_1",
-            "\u{C0}",
-            "\u{F8}",
-            "\u{2FF}",
-            "\u{37F}",
-            "\u{200C}",
-            "\u{EFFFF}",
-            "x\u{B7}",
-            "x\u{300}",
-            "x\u{2040}",
+        for (text, want) in [
+            ("x_1", true),
+            ("0", true),
+            ("\u{F8}\u{2FF}\u{37F}\u{200C}\u{EFFFF}", true),
+            ("x\u{B7}\u{300}\u{2040}", true),
+            ("", false),
+            ("x-", false),
+            ("x.", false),
+            (":", false),
+            ("\u{D7}", false),
+            ("\u{37E}", false),
+            ("\u{B7}", false),
+            ("\u{2041}", false),
+            ("\u{F0000}", false),
         ] {
-            assert!(rt; is_name(text), "{text:?}");
-        }
-        for text in [
-            "",
-            "-",
-            "x-",
-            "x.",
-            ":",
-            "\u{D7}",
-            "\u{F7}",
-            "\u{37E}",
-            "\u{B7}",
-            "\u{300}",
-            "\u{2041}",
-            "\u{F0000}",
-            "x y",
-        ] {
-            assert!(rt; !is_name(text), "{text:?}");
+            assert_eq!(rt; is_name(text), want, "{text:?}");
         }
     }
 }

@@ -4,6 +4,7 @@ ghost use Rattle.std.specs.Ordering.{nat_cmp};
 ghost use Rattle.std.specs.Str.{encode_utf8_all};
 ghost use Rattle.bye_terms.specs.Pieces.{left_of};
 ghost use Rattle.bye_terms.specs.Spellings.{term_bytes};
+ghost use Rattle.bye_terms.specs.Valid.{IsRdfTerm};
 
 use crate::iri::Iri;
 use crate::label::Label;
@@ -23,7 +24,7 @@ pub enum Term {
 }
 
 /// The spelling of a text that stands between two others as it is.
-fn raw<'a>(head: &'a [u8], text: &'a Text, last: &'a [u8]) -> Spelling<'a>
+fn unescaped<'a>(head: &'a [u8], text: &'a Text, last: &'a [u8]) -> Spelling<'a>
     ensures { left_of result ≡ head.now ++ encode_utf8_all text.now ++ last.now }
 {
     Spelling {
@@ -36,6 +37,25 @@ fn raw<'a>(head: &'a [u8], text: &'a Text, last: &'a [u8]) -> Spelling<'a>
 }
 
 impl Term {
+    /// The term, as one of RDF.
+    pub fn as_rdf(&self) -> &Term
+        ensures same { result.now ≡ self.now }
+        ensures valid { IsRdfTerm self.now }
+    {
+        match self {
+            Term::Iri(iri) => {
+                let _text = iri.text();
+            }
+            Term::Blank(label) => {
+                let _text = label.text();
+            }
+            Term::Lit(literal) => {
+                let _literal = literal.as_rdf();
+            }
+        }
+        self
+    }
+
     /// Whether the two are the same term: all parts equal, character by character.
     pub fn same(&self, other: &Term) -> bool
         ensures { IsTrue result ↔ (self.now ≡ other.now) }
@@ -63,8 +83,8 @@ impl Term {
         ensures { left_of result ≡ term_bytes self.now }
     {
         match self {
-            Term::Iri(iri) => raw(b"<", iri.text(), b">"),
-            Term::Blank(label) => raw(b"_:", label.text(), b""),
+            Term::Iri(iri) => unescaped(b"<", iri.text(), b">"),
+            Term::Blank(label) => unescaped(b"_:", label.text(), b""),
             Term::Lit(literal) => literal.spelling(),
         }
     }
@@ -80,77 +100,44 @@ impl Term {
 #[cfg(test)]
 mod tests {
     use super::*;
-    use std::process::Abort;
+    use crate::memory::push_item;
     use std::test::Fail;
 
     fn text(alloc: Global, s: &str) -> Result<Text, Fail> {
         Ok(Text::copy_of(alloc, s)?)
     }
 
-    fn iri(alloc: Global, s: &str) -> Result<Iri, Fail> {
-        Ok(Iri::from_text(text(alloc, s)?).ok_or("no IRI")?)
+    fn string(alloc: Global, s: &str) -> Result<Term, Fail> {
+        Ok(Term::Lit(Literal::string(alloc, text(alloc, s)?)?))
+    }
+
+    fn iri(alloc: Global, s: &str) -> Result<Term, Fail> {
+        Ok(Term::Iri(Iri::from_text(text(alloc, s)?).ok_or("no IRI")?))
     }
 
     fn blank(alloc: Global, s: &str) -> Result<Term, Fail> {
         Ok(Term::Blank(Label::from_text(text(alloc, s)?).ok_or("no label")?))
     }
 
-    fn string(alloc: Global, s: &str) -> Result<Term, Fail> {
-        let datatype = iri(alloc, "http://www.w3.org/2001/XMLSchema#string")?;
-        let literal = Literal::typed(text(alloc, s)?, datatype).ok_or("no literal")?;
-        Ok(Term::Lit(literal))
-    }
-
-    /// That the first spelling comes before the second, and that each is equal to its copy alone.
-    fn in_order(
-        rt: &impl Abort,
-        alloc: Global,
-        one: &Term,
-        other: &Term,
-        name: &str,
-    ) -> Result<(), Fail> {
-        let copy = one.copy(alloc)?;
-        assert_eq!(rt; one.cmp(&copy), Ordering::Equal, "{name}");
-        assert!(rt; one.same(&copy), "{name}");
-        assert_eq!(rt; one.cmp(other), Ordering::Less, "{name}");
-        assert_eq!(rt; other.cmp(one), Ordering::Greater, "{name}");
-        assert!(rt; !one.same(other), "{name}");
+    #[test]
+    fn orders_terms_by_their_spellings(rt: HostRuntime) -> Result<(), Fail> {
+        let alloc = rt.alloc();
+        let mut terms = Vec::new(alloc);
+        // The escape of the line feed stands between the letters P and p, and the bracket above the digits.
+        for s in ["aP", "a\n", "ap"] {
+            push_item(&mut terms, string(alloc, s)?)?;
+        }
+        for s in ["http://e/p10", "http://e/p1"] {
+            push_item(&mut terms, iri(alloc, s)?)?;
+        }
+        push_item(&mut terms, blank(alloc, "a")?)?;
+        for (i, one) in terms.iter().enumerate() {
+            for (j, other) in terms.iter().enumerate() {
+                assert_eq!(rt; one.cmp(other), i.cmp(&j), "{one:?} and {other:?}");
+                assert_eq!(rt; one.same(other), i == j, "{one:?} and {other:?}");
+            }
+            assert_eq!(rt; one.cmp(&one.copy(alloc)?), Ordering::Equal, "{one:?}");
+        }
         Ok(())
-    }
-
-    #[test]
-    fn iris_end_in_their_bracket(rt: HostRuntime) -> Result<(), Fail> {
-        let alloc = rt.alloc();
-        let short = Term::Iri(iri(alloc, "http://e/p1")?);
-        let long = Term::Iri(iri(alloc, "http://e/p10")?);
-        in_order(&rt, alloc, &long, &short, "the bracket is above the digit")
-    }
-
-    #[test]
-    fn kinds_are_ordered_by_their_marks(rt: HostRuntime) -> Result<(), Fail> {
-        let alloc = rt.alloc();
-        let iri = Term::Iri(iri(alloc, "http://e/a")?);
-        in_order(
-            &rt,
-            alloc,
-            &iri,
-            &blank(alloc, "a")?,
-            "IRIs before blank nodes",
-        )
-    }
-
-    #[test]
-    fn escapes_count(rt: HostRuntime) -> Result<(), Fail> {
-        let alloc = rt.alloc();
-        // The line feed is written as a backslash and n, which come after P and before p.
-        let before = string(alloc, "aP")?;
-        let feed = string(alloc, "a\n")?;
-        in_order(
-            &rt,
-            alloc,
-            &before,
-            &feed,
-            "an escape after a capital letter",
-        )
     }
 }

@@ -45,6 +45,15 @@ impl Text {
         self.text.as_str()
     }
 
+    /// The text, as one of whose characters each is a Unicode scalar value.
+    pub fn as_unicode(&self) -> &Text
+        ensures same { result.now ≡ self.now }
+        ensures scalars { IsTrue (all_scalars self.now) }
+    {
+        let _ = &self.text;
+        self
+    }
+
     /// Whether the two are equal, character by character.
     pub fn same(&self, other: &Text) -> bool
         ensures { IsTrue result ↔ (self.now ≡ other.now) }

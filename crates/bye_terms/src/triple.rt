@@ -1,4 +1,6 @@
-ghost use Rattle.std.specs.Prelude.{◌≡◌};
+ghost use Rattle.std.specs.Prelude.{◌≡◌, IsTrue};
+ghost use Rattle.bye_terms.specs.Terms.{is_iri_term, is_subject};
+ghost use Rattle.bye_terms.specs.Valid.{IsRdfTerm};
 
 use crate::term::Term;
 use std::marker::Model;
@@ -23,24 +25,29 @@ impl Model for Triple {
 }
 
 impl Triple {
-    /// The subject.
+    /// The subject, a term of RDF that is no literal.
     pub fn s(&self) -> &Term
-        ensures { result.now ≡ self.now.s }
+        ensures term { result.now ≡ self.now.s }
+        ensures valid { IsRdfTerm self.now.s }
+        ensures subject { IsTrue (is_subject self.now.s) }
     {
-        &self.s
+        self.s.as_rdf()
     }
 
-    /// The predicate.
+    /// The predicate, a term of RDF that is an IRI.
     pub fn p(&self) -> &Term
-        ensures { result.now ≡ self.now.p }
+        ensures term { result.now ≡ self.now.p }
+        ensures valid { IsRdfTerm self.now.p }
+        ensures predicate { IsTrue (is_iri_term self.now.p) }
     {
-        &self.p
+        self.p.as_rdf()
     }
 
-    /// The object.
+    /// The object, a term of RDF.
     pub fn o(&self) -> &Term
-        ensures { result.now ≡ self.now.o }
+        ensures term { result.now ≡ self.now.o }
+        ensures valid { IsRdfTerm self.now.o }
     {
-        &self.o
+        self.o.as_rdf()
     }
 }

@@ -14,6 +14,4 @@ emptied old (b ∷ bytes) r v u e = (
 )
 
 pub returns : goal.returns
-returns c =
-    let u = rw c.as_bytes-bytes.ensures.value at c.as_bytes-bytes.ensures.utf8 in
-    emptied _ _ _ c.self.view_is u c.is_empty.ensures
+returns c = emptied _ _ _ c.rest.ensures c.rest.utf8 c.is_empty.ensures

@@ -7,6 +7,4 @@ same : (bytes text : List ℕ) → IsUtf8 bytes → chars bytes ≡ text → len
 same bytes text u e = ap length (sym (encodes-chars bytes u) ∙ ap encode_utf8_all e)
 
 pub returns : goal.returns
-returns c =
-    let u = rw c.as_bytes-bytes.ensures.value at c.as_bytes-bytes.ensures.utf8 in
-    same _ _ u c.self.view_is
+returns c = same _ _ c.rest.utf8 c.rest.ensures

@@ -19,11 +19,8 @@ none c old bytes is u free = sym (until_none_bytes c bytes u free) ∙ ap (until
 
 pub returns-in-Some-clause-parts : goal.returns-in-Some-clause-parts
 returns-in-Some-clause-parts c =
-    let u = rw c.as_bytes-bytes.ensures.value at c.as_bytes-bytes.ensures.utf8 in
     let h = c.in-Some.ensures.cases in
-    parted _ _ _ _ _ h.0 h.1 c.self.view_is u h.2.0 h.2.1 h.3 h.4
+    parted _ _ _ _ _ h.0 h.1 c.rest.ensures c.rest.utf8 h.2.0 h.2.1 h.3 h.4
 
 pub returns-in-None-clause-parts : goal.returns-in-None-clause-parts
-returns-in-None-clause-parts c =
-    let u = rw c.as_bytes-bytes.ensures.value at c.as_bytes-bytes.ensures.utf8 in
-    none _ _ _ c.self.view_is u c.in-None.ensures.cases
+returns-in-None-clause-parts c = none _ _ _ c.rest.ensures c.rest.utf8 c.in-None.ensures.cases

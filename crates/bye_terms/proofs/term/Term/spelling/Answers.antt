@@ -6,4 +6,4 @@ use Rattle.bye_terms.proofs.term.Term.spelling.Goals as goal
 
 pub returns-in-Iri : goal.returns-in-Iri
 returns-in-Iri c =
-    c.raw.ensures ∙ sym (between (codes "<") c.text.result.now (codes ">") refl refl) ∙ ap term_bytes (ap Iri c.text.ensures.text ∙ sym c.in-Iri.is)
+    c.unescaped.ensures ∙ sym (between (codes "<") c.text.result.now (codes ">") refl refl) ∙ ap term_bytes (ap Iri c.text.ensures.text ∙ sym c.in-Iri.is)
