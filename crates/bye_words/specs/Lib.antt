@@ -1,0 +1,4 @@
+pub mod Kinds
+pub mod Pairs
+pub mod Forms
+pub mod Tables
