@@ -1,5 +1,5 @@
 -- What loops over settings keep.
-use Rattle.std.proofs.Common.{◌≡◌, List, [], ◌∷◌, map, Option, Some, None, is_some, MatchOption, Bool, IsTrue, ◌↔◌, inl, inr, sym, ◌∙◌, ap, subst}
+use Rattle.std.proofs.Common.{◌≡◌, List, [], ◌∷◌, Option, Some, None, is_some, MatchOption, Bool, IsTrue, ◌↔◌, inl, inr, sym, ◌∙◌, ap, subst}
 use Rattle.std.specs.List.{AllByRecursion}
 use Rattle.bye_terms.specs.Members.{In, EachOnce}
 use Rattle.bye_words.specs.Pairs.{Word, Setting}

@@ -1,5 +1,5 @@
 -- Decimal digits without sign and leading zero.
-use Rattle.std.proofs.Common.{◌≡◌, refl, ℕ, ◌+◌, ◌-◌, ◌*◌, ◌<◌, ◌≤◌, ◌^◌, zero, suc, List, [], ◌∷◌, length, get_or, Bool, true, false, IsTrue, ◌↔◌, Result, Ok, Err, sym, ◌∙◌, ap, subst, arith, rules}
+use Rattle.std.proofs.Common.{◌≡◌, refl, ℕ, ◌+◌, ◌-◌, ◌*◌, ◌<◌, ◌≤◌, ◌^◌, zero, suc, List, [], ◌∷◌, length, get_or, Bool, true, false, IsTrue, ◌↔◌, Result, Ok, sym, ◌∙◌, ap, subst, arith, rules}
 use Rattle.std.specs.Fmt.{decimal}
 use Rattle.bye_words.specs.Kinds.{IsNumber}
 use Rattle.std.specs.Char.{is_ascii_digit}
@@ -64,6 +64,7 @@ zero_alone text bytes b same tells h first = less (length text) (λ many. let t 
     there : (text : List ℕ) → get_or text 0 0 ≡ 48 → 0 < length text
     there [] e = absurd (omega arith)
     there (c ∷ cs) e = omega arith
+
     less : (n : ℕ) → (1 < n → ⊥) → 0 < n → n ≡ 1
     less zero one some = absurd (omega arith)
     less (suc zero) one some = refl

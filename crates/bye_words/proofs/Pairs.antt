@@ -1,5 +1,8 @@
 -- Words in pairs.
-use Rattle.std.proofs.Common.{◌≡◌, refl, ◌%◌, List, [], ◌∷◌, length, ap, sym, ◌∙◌, get_or, drop, arith}
+use Rattle.std.proofs.Common.{◌≡◌, refl, ◌%◌, List, [], ◌∷◌, length, ap, sym, ◌∙◌, inl, inr, subst, arith}
+use Rattle.bye_terms.specs.Members.{In, EachOnce}
+use Rattle.bye_words.specs.Forms.{names_in}
+use Rattle.bye_words.proofs.Loops.{name_there}
 use Rattle.std.specs.List.{flat_map}
 use Rattle.bye_words.specs.Pairs.{Word, Setting, setting_words, pairs_of}
 
@@ -26,3 +29,11 @@ same_pairs (s ∷ settings) (o ∷ others) e =
     let rest : flat_map setting_words settings ≡ flat_map setting_words others = cc in
     let more = same_pairs settings others rest in
     (λ i. (name i, value i) ∷ more i)
+
+-- a name that stands once has one value
+pub one_value : (settings : List Setting) (name v w : Word) → EachOnce (names_in settings) → In settings (name, v) → In settings (name, w) → v ≡ w
+one_value [] name v w once h k = absurd h
+one_value (s ∷ settings) name v w once (inl e) (inl f) = sym (ap (λ s. s.1) e) ∙ ap (λ s. s.1) f
+one_value (s ∷ settings) name v w once (inl e) (inr k) = absurd (once.0 (subst (λ n. In (names_in settings) n) (sym (ap (λ s. s.0) e)) (name_there settings name w k)))
+one_value (s ∷ settings) name v w once (inr h) (inl f) = absurd (once.0 (subst (λ n. In (names_in settings) n) (sym (ap (λ s. s.0) f)) (name_there settings name v h)))
+one_value (s ∷ settings) name v w once (inr h) (inr k) = one_value settings name v w once.1 h k

@@ -1,8 +1,8 @@
 -- Words of characters of ASCII.
-use Rattle.std.proofs.Common.{◌≡◌, refl, ℕ, ◌<◌, ◌≤◌, Bool, true, false, ◌&&◌, IsTrue, ◌↔◌, List, [], ◌∷◌, length, get_or, nat_lt, sym, ◌∙◌, ap, subst, arith}
+use Rattle.std.proofs.Common.{◌≡◌, refl, ℕ, ◌<◌, ◌≤◌, Bool, true, false, ◌&&◌, IsTrue, ◌↔◌, List, [], ◌∷◌, length, get_or, nat_lt, sym, ◌∙◌, ap, arith}
 use Rattle.std.specs.List.{list_all}
 use Rattle.std.specs.Str.{chars, encode_utf8_all, all_scalars}
-use Rattle.std.proofs.lemmas.Str.{encodes-chars, chars-encodes, IsUtf8-from_ascii, chars-IsAscii}
+use Rattle.std.proofs.lemmas.Str.{encodes-chars, IsUtf8-from_ascii}
 use Rattle.bye_terms.specs.Ascii.{is_ascii}
 use Rattle.bye_terms.proofs.Tests.{both_parts}
 use Rattle.bye_terms.proofs.Texts.{ascii_at, ascii_chars, tested}
@@ -36,9 +36,10 @@ pub run_of : (is_part : ℕ → Bool) → OfAscii is_part → (most : ℕ) (word
     → all ≡ list_all is_part (chars bytes) → all ≡ true → (IsTrue sized ↔ (0 < length bytes) × (length bytes ≤ most)) → IsTrue sized ↔ IsRun is_part most word
 run_of is_part ascii most word bytes all sized e scalars each is tells =
     let known = sym (tested (λ text. list_all is_part text) all bytes word e scalars each) ∙ is in
-    let same = ap length (same_bytes is_part ascii word bytes e known) in
-    (λ t. let k = tells.0 t in let some : 0 < length bytes = k.0 in let short : length bytes ≤ most = k.1 in record { each = known; some = omega arith; short = omega arith },
-    λ run. let some : 0 < length word = run.some in let short : length word ≤ most = run.short in tells.1 (omega arith, omega arith))
+    let same = ap length (same_bytes is_part ascii word bytes e known) in (
+      λ t. let k = tells.0 t in let some : 0 < length bytes = k.0 in let short : length bytes ≤ most = k.1 in record { each = known; some = omega arith; short = omega arith },
+      λ run. let some : 0 < length word = run.some in let short : length word ≤ most = run.short in tells.1 (omega arith, omega arith),
+    )
 
 pub no_run : (is_part : ℕ → Bool) (most : ℕ) (word bytes : List ℕ) (all : Bool) → bytes ≡ encode_utf8_all word → all_scalars word ≡ true
     → all ≡ list_all is_part (chars bytes) → all ≡ false → IsTrue all ↔ IsRun is_part most word

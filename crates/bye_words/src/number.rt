@@ -3,10 +3,10 @@
 ghost use Rattle.std.specs.Prelude.{◌≡◌, ◌<◌, ◌^◌, ℕ, IfSome, IfNone, IsTrue, ◌↔◌, length, get_or};
 ghost use Rattle.std.specs.Fmt.{decimal};
 ghost use Rattle.bye_words.specs.Kinds.{IsNumber};
-
-use bye_terms::Text;
 ghost use Rattle.std.specs.Char.{is_ascii_digit};
 ghost use Rattle.std.specs.List.{list_all};
+
+use bye_terms::Text;
 
 fn are_digits(text: &[u8]) -> bool
     ensures { result ≡ list_all is_ascii_digit text.now }

@@ -10,6 +10,7 @@ use crate::settings::Settings;
 use bye_terms::Text;
 
 /// What the words are read as: a form, and the settings.
+#[derive(Drop)]
 pub struct Reading<'w> {
     pub form: FormName,
     pub settings: Settings<'w>,

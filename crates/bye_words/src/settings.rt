@@ -1,6 +1,7 @@
 ghost use Rattle.std.specs.Prelude.{◌≡◌, ◌∷◌, ◌↔◌, [], List, map, IsTrue, IfSome, IfNone, MatchOption, ℕ};
 ghost use Rattle.std.specs.List.{flat_map};
 ghost use Rattle.std.specs.Str.{chars};
+ghost use Rattle.bye_terms.specs.Ascii.{is_ascii};
 ghost use Rattle.bye_terms.specs.Members.{In, EachOnce};
 ghost use Rattle.bye_words.specs.Pairs.{Setting, setting_words};
 ghost use Rattle.bye_words.specs.Forms.{names_in};
@@ -65,6 +66,18 @@ impl<'w> Settings<'w> {
             }
         }
         None
+    }
+
+    /// The value of a name of ASCII that is there.
+    pub fn must(&self, name: &str) -> &'w Text
+        requires ascii { IsTrue (is_ascii name.now) }
+        requires there { In (names_in self.now) name.now }
+        ensures { In self.now (name.now, result.now) }
+    {
+        match self.value(name) {
+            Some(value) => value,
+            None => unreachable!(),
+        }
     }
 
     /// Whether the name is there.
