@@ -3,10 +3,9 @@ use Rattle.std.proofs.Common.{◌≡◌, refl, ℕ, List, [], get_or, codes, inl
 use Rattle.std.specs.List.{flat_map}
 use Rattle.bye_terms.specs.Members.{In}
 use Rattle.bye_words.specs.Pairs.{Word, Setting, setting_words}
-use Rattle.bye_words.specs.Forms.{Form, IsLine, IsReading, IsNoReading, learn, convert, forms}
-use Rattle.bye_words.specs.declared.form_name.FormName.TheVariants as names
+use Rattle.bye_words.specs.Forms.{Form, IsLine, learn, convert}
 use Rattle.bye_words.proofs.Pairs.{same_pairs, one_value}
-use Rattle.bye_cli.specs.Words.{IsLearn, IsConvert, Command, Learn, Convert, IsCommand, IsNoCommand}
+use Rattle.bye_cli.specs.Words.{IsLearn, IsConvert, Command, Learn, Convert, IsCommand}
 
 same_settings : (words : List Word) (form : Form) (settings others : List Setting) → IsLine words form settings → IsLine words form others → settings ≡ others
 same_settings words form settings others h k =
@@ -31,24 +30,3 @@ one_command words (Learn g w) (Learn h v) a b =
 one_command words (Learn g w) (Convert h) a b = absurd (not_both words g w h a b)
 one_command words (Convert g) (Learn h v) a b = absurd (not_both words h v g b a)
 one_command words (Convert g) (Convert h) a b = ap Convert (same_value words convert a.settings b.settings (codes "--graph") g h a.line b.line a.graph_named b.graph_named)
-
--- what the words are read as
-pub learn_line : (words : List Word) (settings : List Setting) → IsReading forms words names.Learn settings → IsLine words learn settings
-learn_line words settings h = of_form h.form h.listed h.named h.line
-  where
-    of_form : (form : Form) → In forms form → form.name ≡ names.Learn → IsLine words form settings → IsLine words learn settings
-    of_form form (inl e) named line = subst (λ f. IsLine words f settings) (sym e) line
-    of_form form (inr (inl e)) named line = let name = ap (λ (f : Form). f.name) e ∙ named in cc
-    of_form form (inr (inr h)) named line = absurd h
-
-pub convert_line : (words : List Word) (settings : List Setting) → IsReading forms words names.Convert settings → IsLine words convert settings
-convert_line words settings h = of_form h.form h.listed h.named h.line
-  where
-    of_form : (form : Form) → In forms form → form.name ≡ names.Convert → IsLine words form settings → IsLine words convert settings
-    of_form form (inl e) named line = let name = ap (λ (f : Form). f.name) e ∙ named in cc
-    of_form form (inr (inl e)) named line = subst (λ f. IsLine words f settings) (sym e) line
-    of_form form (inr (inr h)) named line = absurd h
-
-pub no_command : (words : List Word) → IsNoReading forms words → IsNoCommand words
-no_command words none (Learn g w) is = none learn is.settings (inl refl) is.line
-no_command words none (Convert g) is = none convert is.settings (inr (inl refl)) is.line

@@ -21,6 +21,8 @@ mod sending;
 mod settings;
 mod status;
 mod table;
+#[cfg(test)]
+mod tests;
 mod told;
 mod word;
 
