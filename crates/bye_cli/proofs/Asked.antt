@@ -1,16 +1,17 @@
 -- What was read, and what is written of it.
-use Rattle.std.proofs.Common.{◌≡◌, refl, ◌<◌, List, [], ◌∷◌, length, map, ◌↔◌, inl, inr, arith}
+use Rattle.std.proofs.Common.{◌≡◌, refl, ℕ, ◌<◌, List, [], ◌∷◌, length, map, ◌↔◌, inl, inr, arith}
 use Rattle.std.specs.List.{AllByRecursion}
 use Rattle.bye_terms.specs.Terms.{Statement}
 use Rattle.bye_pattern.specs.Tables.{TableValue}
 use Rattle.bye_terms.specs.Members.{In}
 use Rattle.bye_pattern.specs.Mappings.{Name, Pairs, Binds, Exactly, row_mapping}
 use Rattle.bye_pattern.proofs.RowMappings.{rows_bind}
-use Rattle.bye_cli.specs.Words.{Word, Learn, Convert, IsSomeCommand}
-use Rattle.bye_cli.specs.Problem.{IsAsked, IsRead, IsWritten, IsAnswer}
+use Rattle.bye_words.specs.Pairs.{Word}
+use Rattle.bye_cli.specs.Words.{Learn, Convert, IsSomeCommand}
+use Rattle.bye_cli.specs.Problem.{IsAsked, IsRead, IsWritten, IsOutput, IsWrittenOf}
 use Rattle.bye_cli.specs.Documents.{Files}
-use Rattle.bye_cli.specs.declared.answer.Answer.{Answer}
-use Rattle.bye_cli.specs.declared.answer.Answer.TheVariants.{Query, Refusal, Document}
+use Rattle.bye_cli.specs.declared.ending.Ending.{Ending}
+use Rattle.bye_cli.specs.declared.ending.Ending.TheVariants.{Done, Refused}
 use Rattle.bye_cli.proofs.Graphs.{graph_triples}
 
 -- documents of the first forms are read as the learner takes them
@@ -38,14 +39,18 @@ is_read files words graph wanted asked =
       };
     }
 
-pub is_answer : (files : Files) (words : List Word) (graph : List Statement) (wanted : TableValue) (answer : Answer)
-    → IsAsked files words graph wanted → IsWritten graph wanted answer → IsAnswer files words answer
-is_answer files words graph wanted (Query text) asked written = record { graph = graph; wanted = wanted; asked = asked; query = written }
-is_answer files words graph wanted (Refusal text) asked written = record { graph = graph; wanted = wanted; asked = asked; refusal = written }
-is_answer files words graph wanted (Document bytes) asked written = absurd written
+pub is_answer : (files : Files) (words : List Word) (graph : List Statement) (wanted : TableValue) (ending : Ending) (bytes : List ℕ)
+    → IsAsked files words graph wanted → IsWritten graph wanted ending bytes → IsWrittenOf files words ending bytes
+is_answer files words graph wanted Done bytes asked written = inl (written.0, record { graph = graph; wanted = wanted; asked = asked; query = written.1 }, written.2)
+is_answer files words graph wanted Refused bytes asked written = (written.0, record { graph = graph; wanted = wanted; asked = asked; refusal = written.1 }, written.2)
 
 -- what is to be written is asked by a command
-pub answer_command : (files : Files) (words : List Word) (answer : Answer) → IsAnswer files words answer → IsSomeCommand words
-answer_command files words (Query text) h = (Learn h.asked.given.graph_name h.asked.given.wanted_name, h.asked.given.learn)
-answer_command files words (Refusal text) h = (Learn h.asked.given.graph_name h.asked.given.wanted_name, h.asked.given.learn)
-answer_command files words (Document bytes) h = (Convert h.asked.graph_name, h.asked.convert)
+pub answer_command : (files : Files) (words : List Word) (ending : Ending) (bytes : List ℕ) → IsWrittenOf files words ending bytes → IsSomeCommand words
+answer_command files words Done bytes (inl h) = (Learn h.1.asked.given.graph_name h.1.asked.given.wanted_name, h.1.asked.given.learn)
+answer_command files words Done bytes (inr h) = (Convert h.asked.graph_name, h.asked.convert)
+answer_command files words Refused bytes h = (Learn h.1.asked.given.graph_name h.1.asked.given.wanted_name, h.1.asked.given.learn)
+
+-- and is an output
+pub is_output : (files : Files) (words : List Word) (ending : Ending) (bytes : List ℕ) → IsWrittenOf files words ending bytes → IsOutput files words bytes
+is_output files words Done bytes h = inl h
+is_output files words Refused bytes h = inr h

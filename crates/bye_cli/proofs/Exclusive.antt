@@ -3,7 +3,8 @@ use Rattle.std.proofs.Common.{◌≡◌, refl, ℕ, ◌<◌, List, [], ◌∷◌
 use Rattle.bye_terms.specs.Terms.{Statement}
 use Rattle.bye_pattern.specs.Mappings.{Pairs}
 use Rattle.bye_pattern.specs.Tables.{TableValue}
-use Rattle.bye_cli.specs.Words.{Word, Command, Learn, Convert, IsCommand, IsSomeCommand}
+use Rattle.bye_words.specs.Pairs.{Word}
+use Rattle.bye_cli.specs.Words.{Command, Learn, Convert, IsCommand, IsSomeCommand}
 use Rattle.bye_cli.specs.Documents.{Files, IsTold, Document, due, Value, Triples, Rows, TooMany, Faulty, Good, HasVerdict, Reaches}
 use Rattle.bye_cli.specs.Problem.{IsGiven}
 use Rattle.bye_cli.specs.Causes.{IsFaulty, IsPast, IsMissing, IsWithoutRow, IsAskedCase}

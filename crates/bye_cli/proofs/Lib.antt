@@ -1,10 +1,7 @@
-pub mod Commands
-pub mod Named
-pub mod Graphs
-pub mod Unread
-pub mod Digits
-pub mod Lines
 pub mod Asked
-pub mod Verdicts
+pub mod Commands
 pub mod Exclusive
+pub mod Graphs
 pub mod Settled
+pub mod Unread
+pub mod Verdicts

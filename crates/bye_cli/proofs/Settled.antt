@@ -1,31 +1,34 @@
 -- Each status from its cause, and its cause from each status.
-use Rattle.std.proofs.Common.{◌≡◌, refl, ℕ, List, Option, inl, inr, ◌⊎◌, ⊎_elim, sym, ◌∙◌, subst, ◌↔◌}
+use Rattle.std.proofs.Common.{◌≡◌, refl, ℕ, ◌≤◌, List, Option, Ok, Err, inl, inr, ◌⊎◌, ⊎_elim, sym, ◌∙◌, ap, subst, ◌↔◌, arith}
 use Rattle.bye_io.specs.Counts.{Rose}
 use Rattle.bye_terms.specs.Terms.{Statement}
 use Rattle.bye_pattern.specs.Tables.{TableValue}
-use Rattle.bye_cli.specs.Words.{Word, IsNoCommand, IsSomeCommand, IsSomeConvert}
+use Rattle.bye_words.specs.Pairs.{Word}
+use Rattle.bye_cli.specs.Words.{IsNoCommand, IsSomeCommand, IsSomeConvert}
 use Rattle.bye_cli.specs.Documents.{Files, IsTold}
 use Rattle.bye_cli.specs.Problem.{IsAsked, IsQueryText, IsRefusalLine, IsDoneOutput, IsRefusedOutput, IsOutput}
 use Rattle.bye_cli.specs.Converting.{IsConverted, IsConversion}
 use Rattle.bye_cli.specs.Headline.{NoneFits, Headline}
 use Rattle.bye_cli.specs.Causes.{IsCause, IsReason, IsFailure, IsUnreadable, IsMissing, IsWithoutRow, IsQuiet, IsAskedCase}
-use Rattle.bye_cli.specs.Messages.{err_line, SendsLine, IsReport, IsMessage}
-use Rattle.bye_cli.specs.Statuses.{status_of, outcome_status, IsAnswered, InUtf8, Sends, SendsPart}
-use Rattle.bye_cli.specs.declared.outcome.Outcome.{Outcome}
-use Rattle.bye_cli.specs.declared.outcome.Outcome.TheVariants as outcomes
-use Rattle.bye_cli.specs.declared.refusal.Refusal.{Refusal}
-use Rattle.bye_cli.specs.declared.refusal.Refusal.TheVariants as refusals
-use Rattle.bye_cli.specs.declared.status.Status.{Status}
-use Rattle.bye_cli.specs.declared.status.Status.TheVariants as statuses
+use Rattle.bye_words.specs.Lines.{err_line}
+use Rattle.bye_words.specs.Statuses.{number_of, status_of}
+use Rattle.bye_cli.specs.Messages.{SendsLine, IsReport, IsMessage}
+use Rattle.bye_cli.specs.Statuses.{outcome_status, IsAnswered, InUtf8, Sends, SendsPart}
+use Rattle.bye_cli.specs.Statuses.{Outcome}
+use Rattle.bye_cli.specs.declared.ending.Ending.TheVariants as endings
+use Rattle.bye_words.specs.declared.refusal.Refusal.{Refusal}
+use Rattle.bye_words.specs.declared.refusal.Refusal.TheVariants as refusals
+use Rattle.bye_words.specs.declared.status.Status.{Status}
+use Rattle.bye_words.specs.declared.status.Status.TheVariants as statuses
 use Rattle.bye_cli.proofs.Commands.{not_both}
 use Rattle.bye_cli.proofs.Exclusive.{Ending, Faults, Past, Missing, Bare, Asked, Ends, one_ending, some_command, same_given}
 
 -- what a run tells of how it ends
 pub record Run (files : Files) (words : List Word) (before now out_before out_now : ℕ) (sent sent_now : Option (List ℕ)) (outcome : Outcome) : Type 0 where
-  pub done : outcome ≡ outcomes.Done → Sends (IsDoneOutput files words) sent sent_now
-  pub refused : outcome ≡ outcomes.Refused → Sends (IsRefusedOutput files words) sent sent_now
-  pub write_fault : outcome ≡ outcomes.Failed refusals.WriteFault → SendsPart (IsOutput files words) sent sent_now
-  pub write_rose : outcome ≡ outcomes.Failed refusals.WriteFault → Rose out_before out_now
+  pub done : outcome ≡ Ok endings.Done → Sends (IsDoneOutput files words) sent sent_now
+  pub refused : outcome ≡ Ok endings.Refused → Sends (IsRefusedOutput files words) sent sent_now
+  pub write_fault : outcome ≡ Err refusals.WriteFault → SendsPart (IsOutput files words) sent sent_now
+  pub write_rose : outcome ≡ Err refusals.WriteFault → Rose out_before out_now
   pub failed : IsFailure files words before now outcome
 
 done_asked : (files : Files) (words : List Word) (bytes : List ℕ) → IsDoneOutput files words bytes → Ends files words Asked
@@ -61,19 +64,22 @@ data Shown (files : Files) (words : List Word) (before now : ℕ) (status : Stat
 
 shown : (files : Files) (words : List Word) (before now out_before out_now : ℕ) (sent sent_now : Option (List ℕ)) (outcome : Outcome)
     → Run files words before now out_before out_now sent sent_now outcome → Shown files words before now (outcome_status outcome)
-shown files words before now ob on s t outcomes.Done run = let w = run.done refl in Way Asked (done_asked files words w.0 w.1) (inl refl)
-shown files words before now ob on s t outcomes.Refused run = let w = run.refused refl in Way Asked (refused_asked files words w.0 w.1) (inr (inl refl))
-shown files words before now ob on s t (outcomes.Failed refusals.Words) run = NoWords refl (cause_of files words before now refusals.Words run.failed (λ e. cc))
-shown files words before now ob on s t (outcomes.Failed (refusals.Document role fault)) run =
+shown files words before now ob on s t (Ok endings.Done) run = let w = run.done refl in Way Asked (done_asked files words w.0 w.1) (inl refl)
+shown files words before now ob on s t (Ok endings.Refused) run = let w = run.refused refl in Way Asked (refused_asked files words w.0 w.1) (inr (inl refl))
+shown files words before now ob on s t (Err refusals.Words) run = NoWords refl (cause_of files words before now refusals.Words run.failed (λ e. cc))
+shown files words before now ob on s t (Err (refusals.Document role fault)) run =
     Way Faults (role, fault, cause_of files words before now (refusals.Document role fault) run.failed (λ e. cc)) refl
-shown files words before now ob on s t (outcomes.Failed (refusals.Limit role count)) run =
+shown files words before now ob on s t (Err (refusals.Limit role count)) run =
     Way Past (role, count, cause_of files words before now (refusals.Limit role count) run.failed (λ e. cc)) refl
-shown files words before now ob on s t (outcomes.Failed (refusals.ReadFault role)) run =
+shown files words before now ob on s t (Err (refusals.ReadFault role)) run =
     let h = cause_of files words before now (refusals.ReadFault role) run.failed (λ e. cc) in
     ⊎_elim (λ rose. Risen refl rose (h.command, h.is)) (λ missing. Way Missing missing refl) (missing_of files words before now role h)
-shown files words before now ob on s t (outcomes.Failed refusals.WriteFault) run = let w = run.write_fault refl in Way Asked (output_asked files words w.0 w.1) (inr (inr refl))
-shown files words before now ob on s t (outcomes.Failed refusals.Memory) run = NoMemory refl (cause_of files words before now refusals.Memory run.failed (λ e. cc))
-shown files words before now ob on s t (outcomes.Failed refusals.Example) run = Way Bare (cause_of files words before now refusals.Example run.failed (λ e. cc)) refl
+shown files words before now ob on s t (Err refusals.WriteFault) run = let w = run.write_fault refl in Way Asked (output_asked files words w.0 w.1) (inr (inr refl))
+shown files words before now ob on s t (Err refusals.Memory) run = NoMemory refl (cause_of files words before now refusals.Memory run.failed (λ e. cc))
+shown files words before now ob on s t (Err (refusals.Example example)) run = Way Bare (cause_of files words before now (refusals.Example example) run.failed (λ e. cc)).1 refl
+shown files words before now ob on s t (Err refusals.Answers) run = absurd (cause_of files words before now refusals.Answers run.failed (λ e. cc))
+shown files words before now ob on s t (Err refusals.LinkFault) run = absurd (cause_of files words before now refusals.LinkFault run.failed (λ e. cc))
+shown files words before now ob on s t (Err (refusals.Remote remote)) run = absurd (cause_of files words before now (refusals.Remote remote) run.failed (λ e. cc))
 
 -- where the folder's count did not rise, the status is Memory or one that stands for the way to end
 settled_of : (files : Files) (words : List Word) (before now : ℕ) (status : Status) → Shown files words before now status → IsQuiet files before now
@@ -115,49 +121,55 @@ words_alone files words before now ob on s t outcome run status is =
     (λ e. words_none files words before now (outcome_status outcome) k (sym is ∙ e), λ none. ⊎_elim (λ e. is ∙ e) (λ c. absurd (none c.0 c.1)) (no_words files words before now (outcome_status outcome) k))
 
 -- the outcome of some statuses
-is_done : (outcome : Outcome) → outcome_status outcome ≡ statuses.Done → outcome ≡ outcomes.Done
-is_done outcomes.Done e = refl
-is_done outcomes.Refused e = cc
-is_done (outcomes.Failed refusals.Words) e = cc
-is_done (outcomes.Failed (refusals.Document role fault)) e = cc
-is_done (outcomes.Failed (refusals.Limit role count)) e = cc
-is_done (outcomes.Failed (refusals.ReadFault role)) e = cc
-is_done (outcomes.Failed refusals.WriteFault) e = cc
-is_done (outcomes.Failed refusals.Memory) e = cc
-is_done (outcomes.Failed refusals.Example) e = cc
+no_answer : (refusal : Refusal) → 2 ≤ number_of (status_of refusal)
+no_answer refusals.Words = omega arith
+no_answer (refusals.Document role fault) = omega arith
+no_answer (refusals.Limit role count) = omega arith
+no_answer refusals.Answers = omega arith
+no_answer (refusals.ReadFault role) = omega arith
+no_answer refusals.WriteFault = omega arith
+no_answer refusals.Memory = omega arith
+no_answer refusals.LinkFault = omega arith
+no_answer (refusals.Example example) = omega arith
+no_answer (refusals.Remote remote) = omega arith
 
-is_refused : (outcome : Outcome) → outcome_status outcome ≡ statuses.Refused → outcome ≡ outcomes.Refused
-is_refused outcomes.Done e = cc
-is_refused outcomes.Refused e = refl
-is_refused (outcomes.Failed refusals.Words) e = cc
-is_refused (outcomes.Failed (refusals.Document role fault)) e = cc
-is_refused (outcomes.Failed (refusals.Limit role count)) e = cc
-is_refused (outcomes.Failed (refusals.ReadFault role)) e = cc
-is_refused (outcomes.Failed refusals.WriteFault) e = cc
-is_refused (outcomes.Failed refusals.Memory) e = cc
-is_refused (outcomes.Failed refusals.Example) e = cc
+is_done : (outcome : Outcome) → outcome_status outcome ≡ statuses.Done → outcome ≡ Ok endings.Done
+is_done (Ok endings.Done) e = refl
+is_done (Ok endings.Refused) e = cc
+is_done (Err refusal) e = let n = ap number_of e in let m = no_answer refusal in absurd (omega arith)
 
-is_write_fault : (outcome : Outcome) → outcome_status outcome ≡ statuses.WriteFault → outcome ≡ outcomes.Failed refusals.WriteFault
-is_write_fault outcomes.Done e = cc
-is_write_fault outcomes.Refused e = cc
-is_write_fault (outcomes.Failed refusals.Words) e = cc
-is_write_fault (outcomes.Failed (refusals.Document role fault)) e = cc
-is_write_fault (outcomes.Failed (refusals.Limit role count)) e = cc
-is_write_fault (outcomes.Failed (refusals.ReadFault role)) e = cc
-is_write_fault (outcomes.Failed refusals.WriteFault) e = refl
-is_write_fault (outcomes.Failed refusals.Memory) e = cc
-is_write_fault (outcomes.Failed refusals.Example) e = cc
+is_refused : (outcome : Outcome) → outcome_status outcome ≡ statuses.Refused → outcome ≡ Ok endings.Refused
+is_refused (Ok endings.Done) e = cc
+is_refused (Ok endings.Refused) e = refl
+is_refused (Err refusal) e = let n = ap number_of e in let m = no_answer refusal in absurd (omega arith)
+
+is_write_fault : (outcome : Outcome) → outcome_status outcome ≡ statuses.WriteFault → outcome ≡ Err refusals.WriteFault
+is_write_fault (Ok endings.Done) e = cc
+is_write_fault (Ok endings.Refused) e = cc
+is_write_fault (Err refusals.Words) e = cc
+is_write_fault (Err (refusals.Document role fault)) e = cc
+is_write_fault (Err (refusals.Limit role count)) e = cc
+is_write_fault (Err refusals.Answers) e = cc
+is_write_fault (Err (refusals.ReadFault role)) e = cc
+is_write_fault (Err refusals.WriteFault) e = refl
+is_write_fault (Err refusals.Memory) e = cc
+is_write_fault (Err refusals.LinkFault) e = cc
+is_write_fault (Err (refusals.Example example)) e = cc
+is_write_fault (Err (refusals.Remote remote)) e = cc
 
 is_example : (files : Files) (words : List Word) (before now : ℕ) (outcome : Outcome) → IsFailure files words before now outcome → outcome_status outcome ≡ statuses.Example → IsWithoutRow files words
-is_example files words before now outcomes.Done h e = cc
-is_example files words before now outcomes.Refused h e = cc
-is_example files words before now (outcomes.Failed refusals.Words) h e = cc
-is_example files words before now (outcomes.Failed (refusals.Document role fault)) h e = cc
-is_example files words before now (outcomes.Failed (refusals.Limit role count)) h e = cc
-is_example files words before now (outcomes.Failed (refusals.ReadFault role)) h e = cc
-is_example files words before now (outcomes.Failed refusals.WriteFault) h e = cc
-is_example files words before now (outcomes.Failed refusals.Memory) h e = cc
-is_example files words before now (outcomes.Failed refusals.Example) h e = cause_of files words before now refusals.Example h (λ e. cc)
+is_example files words before now (Ok endings.Done) h e = cc
+is_example files words before now (Ok endings.Refused) h e = cc
+is_example files words before now (Err refusals.Words) h e = cc
+is_example files words before now (Err (refusals.Document role fault)) h e = cc
+is_example files words before now (Err (refusals.Limit role count)) h e = cc
+is_example files words before now (Err refusals.Answers) h e = cc
+is_example files words before now (Err (refusals.ReadFault role)) h e = cc
+is_example files words before now (Err refusals.WriteFault) h e = cc
+is_example files words before now (Err refusals.Memory) h e = cc
+is_example files words before now (Err refusals.LinkFault) h e = cc
+is_example files words before now (Err (refusals.Example example)) h e = (cause_of files words before now (refusals.Example example) h (λ e. cc)).1
+is_example files words before now (Err (refusals.Remote remote)) h e = cc
 
 -- what `convert` writes
 converted_of : (files : Files) (words : List Word) (bytes : List ℕ) → IsSomeConvert words → IsDoneOutput files words bytes → IsConverted files words bytes
@@ -178,18 +190,21 @@ conversion files words before now ob on s t outcome run status is convert = reco
 message_of : (files : Files) (words : List Word) (before now : ℕ) (refusal : Refusal) (Rises : Type 0) (sent sent_now : Option (List ℕ)) → IsReason files words before now refusal
     → SendsLine Rises (err_line refusal) sent sent_now → IsMessage files words before now (status_of refusal) Rises sent sent_now
 message_of files words before now refusals.Words Rises s t h line = record { refusal = refusals.Words; status_is = refl; cause = h; line = line }
-message_of files words before now (refusals.Document role fault) Rises s t h line = record { refusal = refusals.Document role fault; status_is = refl; cause = h; line = line }
-message_of files words before now (refusals.Limit role count) Rises s t h line = record { refusal = refusals.Limit role count; status_is = refl; cause = h; line = line }
-message_of files words before now (refusals.ReadFault role) Rises s t h line = record { refusal = refusals.ReadFault role; status_is = refl; cause = h; line = line }
+message_of files words before now (refusals.Document role fault) Rises s t h line = record { refusal = (refusals.Document role fault); status_is = refl; cause = h; line = line }
+message_of files words before now (refusals.Limit role count) Rises s t h line = record { refusal = (refusals.Limit role count); status_is = refl; cause = h; line = line }
+message_of files words before now refusals.Answers Rises s t h line = record { refusal = refusals.Answers; status_is = refl; cause = h; line = line }
+message_of files words before now (refusals.ReadFault role) Rises s t h line = record { refusal = (refusals.ReadFault role); status_is = refl; cause = h; line = line }
 message_of files words before now refusals.WriteFault Rises s t h line = record { refusal = refusals.WriteFault; status_is = refl; cause = h; line = line }
 message_of files words before now refusals.Memory Rises s t h line = record { refusal = refusals.Memory; status_is = refl; cause = h; line = line }
-message_of files words before now refusals.Example Rises s t h line = record { refusal = refusals.Example; status_is = refl; cause = h; line = line }
+message_of files words before now refusals.LinkFault Rises s t h line = record { refusal = refusals.LinkFault; status_is = refl; cause = h; line = line }
+message_of files words before now (refusals.Example example) Rises s t h line = record { refusal = (refusals.Example example); status_is = refl; cause = h; line = line }
+message_of files words before now (refusals.Remote remote) Rises s t h line = record { refusal = (refusals.Remote remote); status_is = refl; cause = h; line = line }
 
 pub message : (files : Files) (words : List Word) (before now : ℕ) (outcome : Outcome) (Rises : Type 0) (sent sent_now : Option (List ℕ)) → IsFailure files words before now outcome
     → IsReport outcome Rises sent sent_now → IsMessage files words before now (outcome_status outcome) Rises sent sent_now
-message files words before now outcomes.Done Rises s t h report = report
-message files words before now outcomes.Refused Rises s t h report = report
-message files words before now (outcomes.Failed refusal) Rises s t h report = message_of files words before now refusal Rises s t h report
+message files words before now (Ok endings.Done) Rises s t h report = report
+message files words before now (Ok endings.Refused) Rises s t h report = report
+message files words before now (Err refusal) Rises s t h report = message_of files words before now refusal Rises s t h report
 
 -- what was written is of the graph and the table that are given
 query_of : (files : Files) (words : List Word) (graph : List Statement) (wanted : TableValue) (bytes : List ℕ) → IsTold files → IsAsked files words graph wanted

@@ -7,15 +7,16 @@ use Rattle.bye_io.specs.declared.fault.ReadErr.TheVariants as errors
 use Rattle.bye_ntriples.specs.Answers.{IsFault}
 use Rattle.bye_ntriples.specs.declared.fault.NtErr.{NtErr}
 use Rattle.bye_ntriples.specs.declared.fault.NtErr.TheVariants as graph_errors
-use Rattle.bye_cli.specs.Words.{Word, Command, IsCommand}
+use Rattle.bye_words.specs.Pairs.{Word}
+use Rattle.bye_cli.specs.Words.{Command, IsCommand}
 use Rattle.bye_cli.specs.Documents.{Files, Holds, HoldsLonger, Document, due, limit_of, Verdict, TooMany, Faulty, HasVerdict, Reaches, Stops}
-use Rattle.bye_cli.specs.Causes.{IsUnread, IsCause, IsUnreadable}
+use Rattle.bye_cli.specs.Causes.{IsUnfit, IsUnread, IsCause, IsUnreadable}
 use Rattle.bye_cli.specs.Refusals.{refusal_of, graph_refusal}
-use Rattle.bye_cli.specs.declared.refusal.Role.{Role}
-use Rattle.bye_cli.specs.declared.refusal.Role.TheVariants.{Graph}
-use Rattle.bye_cli.specs.declared.refusal.Count.TheVariants as counts
-use Rattle.bye_cli.specs.declared.refusal.Refusal.{Refusal}
-use Rattle.bye_cli.specs.declared.refusal.Refusal.TheVariants as refusals
+use Rattle.bye_words.specs.declared.role.Role.{Role}
+use Rattle.bye_words.specs.declared.role.Role.TheVariants.{Graph}
+use Rattle.bye_words.specs.declared.count.Count.TheVariants as counts
+use Rattle.bye_words.specs.declared.refusal.Refusal.{Refusal}
+use Rattle.bye_words.specs.declared.refusal.Refusal.TheVariants as refusals
 
 -- bytes that are more than so many
 longer : (n : ℕ) → (bytes : List ℕ) × (n < length bytes)
@@ -23,12 +24,12 @@ longer zero = (0 ∷ [], omega arith)
 longer (suc n) = let w = longer n in let l : n < length w.0 = w.1 in (0 ∷ w.0, omega arith)
 
 long_verdict : (files : Files) (role : Role) (name : Word) → HoldsLonger files name (limit_of role) → HasVerdict files (role, name) (TooMany counts.Bytes)
-long_verdict None role name h = let w = longer (limit_of role) in record { bytes = w.0; held = tt; judged = w.1 }
+long_verdict None role name h = let w = longer (limit_of role) in record { bytes = w.0; held = tt; judged = inl (refl, w.1) }
 long_verdict (Some files) role name h = told (files name) refl h
   where
     told : (o : Option (List ℕ)) → files name ≡ o → IsSomeAnd o (λ bytes. limit_of role < length bytes) → HasVerdict (Some files) (role, name) (TooMany counts.Bytes)
     told None e h = absurd h
-    told (Some bytes) e h = record { bytes = bytes; held = e; judged = h }
+    told (Some bytes) e h = record { bytes = bytes; held = e; judged = inl (refl, h) }
 
 -- a document whose bytes were not read
 pub unread : (files : Files) (role : Role) (name : Word) (before now : ℕ) (err : ReadErr) (refusal : Refusal) → refusal ≡ refusal_of role err
@@ -37,16 +38,26 @@ unread files role name before now errors.TooLong refusal e long failed = subst (
 unread files role name before now errors.Failed refusal e long failed = subst (IsUnread files (role, name) before now) (sym e) (refl, failed refl)
 unread files role name before now errors.Memory refusal e long failed = subst (IsUnread files (role, name) before now) (sym e) tt
 
--- a graph that is not of its form or has too many triples
-pub no_graph : (files : Files) (name : Word) (before now : ℕ) (bytes : List ℕ) (err : NtErr) (refusal : Refusal) → refusal ≡ graph_refusal err
-    → Holds files name bytes → length bytes ≤ limit_of Graph → IsFault bytes err → IsUnread files (Graph, name) before now refusal
-no_graph files name before now bytes (graph_errors.Syntax place) refusal e held within fault =
-    subst (IsUnread files (Graph, name) before now) (sym e) (refl, record { bytes = bytes; held = held; judged = (within, fault) })
-no_graph files name before now bytes (graph_errors.NotUtf8 place) refusal e held within fault =
-    subst (IsUnread files (Graph, name) before now) (sym e) (refl, record { bytes = bytes; held = held; judged = (within, fault) })
-no_graph files name before now bytes graph_errors.TooMany refusal e held within fault =
-    subst (IsUnread files (Graph, name) before now) (sym e) (refl, record { bytes = bytes; held = held; judged = (within, fault) })
-no_graph files name before now bytes graph_errors.Memory refusal e held within fault = subst (IsUnread files (Graph, name) before now) (sym e) tt
+-- a document whose bytes were read, and are no document of the role
+pub unfit : (files : Files) (role : Role) (name : Word) (before now : ℕ) (bytes : List ℕ) (refusal : Refusal)
+    → Holds files name bytes → IsUnfit role bytes refusal → IsUnread files (role, name) before now refusal
+unfit files role name before now bytes (refusals.Document said fault) held h = (h.0, record { bytes = bytes; held = held; judged = h.1 })
+unfit files role name before now bytes (refusals.Limit said count) held h = (h.0, record { bytes = bytes; held = held; judged = h.1 })
+unfit files role name before now bytes refusals.Memory held h = tt
+unfit files role name before now bytes refusals.Words held h = absurd h
+unfit files role name before now bytes refusals.Answers held h = absurd h
+unfit files role name before now bytes (refusals.ReadFault said) held h = absurd h
+unfit files role name before now bytes refusals.WriteFault held h = absurd h
+unfit files role name before now bytes refusals.LinkFault held h = absurd h
+unfit files role name before now bytes (refusals.Example example) held h = absurd h
+unfit files role name before now bytes (refusals.Remote remote) held h = absurd h
+
+-- bytes that are not a graph or have too many triples
+pub no_graph : (bytes : List ℕ) (err : NtErr) (refusal : Refusal) → refusal ≡ graph_refusal err → length bytes ≤ limit_of Graph → IsFault bytes err → IsUnfit Graph bytes refusal
+no_graph bytes (graph_errors.Syntax place) refusal e within fault = subst (IsUnfit Graph bytes) (sym e) (refl, (within, inl (place, refl, fault)))
+no_graph bytes (graph_errors.NotUtf8 place) refusal e within fault = subst (IsUnfit Graph bytes) (sym e) (refl, (within, inr (place, refl, fault)))
+no_graph bytes graph_errors.TooMany refusal e within fault = subst (IsUnfit Graph bytes) (sym e) (refl, inr (within, (refl, fault)))
+no_graph bytes graph_errors.Memory refusal e within fault = subst (IsUnfit Graph bytes) (sym e) tt
 
 rose_later : (before mid now : ℕ) → before ≤ mid → Rose mid now → Rose before now
 rose_later before mid now l rose = omega arith
@@ -65,4 +76,7 @@ reached_unread files words command d before mid now (refusals.ReadFault role) is
     (record { command = command; is = is; name = d.1; reached = reached; cause = ⊎_elim (λ rose. inl (rose_later before mid now later rose)) (λ lacks. inr lacks) h.1 })
 reached_unread files words command d before mid now refusals.WriteFault is reached later h = absurd h
 reached_unread files words command d before mid now refusals.Memory is reached later h = (command, is)
-reached_unread files words command d before mid now refusals.Example is reached later h = absurd h
+reached_unread files words command d before mid now refusals.Answers is reached later h = absurd h
+reached_unread files words command d before mid now refusals.LinkFault is reached later h = absurd h
+reached_unread files words command d before mid now (refusals.Example example) is reached later h = absurd h
+reached_unread files words command d before mid now (refusals.Remote remote) is reached later h = absurd h

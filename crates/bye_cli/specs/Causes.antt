@@ -1,20 +1,21 @@
 -- When each status comes.
-use Rattle.std.specs.Prelude.{◌≡◌, ℕ, List, [], ⊤, ◌⊎◌}
+use Rattle.std.specs.Prelude.{◌≡◌, ℕ, List, [], Ok, Err, ⊤, ◌⊎◌}
 use Rattle.bye_io.specs.Counts.{Rose}
 use Rattle.bye_io.specs.Files.{Lacks}
 use Rattle.bye_terms.specs.Terms.{Statement}
 use Rattle.bye_pattern.specs.Tables.{TableValue}
-use Rattle.bye_cli.specs.Words.{Word, Command, IsCommand, IsNoCommand, IsSomeCommand}
-use Rattle.bye_cli.specs.Documents.{Files, IsTold, Document, due, Verdict, TooMany, Faulty, HasVerdict, Reaches, Stops}
+use Rattle.bye_words.specs.Pairs.{Word}
+use Rattle.bye_cli.specs.Words.{Command, IsCommand, IsNoCommand, IsSomeCommand}
+use Rattle.bye_cli.specs.Documents.{Files, IsTold, Document, due, Verdict, TooMany, Faulty, IsVerdict, HasVerdict, Reaches, Stops}
 use Rattle.bye_cli.specs.Problem.{IsGiven, IsAsked}
 use Rattle.bye_cli.specs.Converting.{IsConvertible}
-use Rattle.bye_cli.specs.declared.outcome.Outcome.{Outcome}
-use Rattle.bye_cli.specs.declared.outcome.Outcome.TheVariants as outcomes
-use Rattle.bye_cli.specs.declared.refusal.Role.{Role}
-use Rattle.bye_cli.specs.declared.refusal.Fault.{Fault}
-use Rattle.bye_cli.specs.declared.refusal.Count.{Count}
-use Rattle.bye_cli.specs.declared.refusal.Refusal.{Refusal}
-use Rattle.bye_cli.specs.declared.refusal.Refusal.TheVariants as refusals
+use Rattle.bye_cli.specs.Statuses.{Outcome}
+use Rattle.bye_words.specs.declared.example.Example.TheVariants as examples
+use Rattle.bye_words.specs.declared.role.Role.{Role}
+use Rattle.bye_words.specs.declared.fault.Fault.{Fault}
+use Rattle.bye_words.specs.declared.count.Count.{Count}
+use Rattle.bye_words.specs.declared.refusal.Refusal.{Refusal}
+use Rattle.bye_words.specs.declared.refusal.Refusal.TheVariants as refusals
 
 -- a document of the command that is read as this is reached, and has this verdict
 abbrev pub IsStopped : Files → List Word → Role → Verdict → Type 0
@@ -52,24 +53,31 @@ IsUnread files d before now (refusals.ReadFault role) = (d.0 ≡ role) × (Rose 
 IsUnread files d before now refusals.Memory = ⊤
 IsUnread files d before now _ = ⊥
 
+-- why bytes within the limit are not read as a document of the role: they are not of its form, they have too many of what the
+-- role counts in them, or memory was refused
+abbrev pub IsUnfit : Role → List ℕ → Refusal → Type 0
+IsUnfit role bytes (refusals.Document said fault) = (role ≡ said) × IsVerdict role bytes (Faulty fault)
+IsUnfit role bytes (refusals.Limit said count) = (role ≡ said) × IsVerdict role bytes (TooMany count)
+IsUnfit role bytes refusals.Memory = ⊤
+IsUnfit role bytes _ = ⊥
+
 -- why there is no answer
 abbrev pub IsCause : Files → List Word → ℕ → ℕ → Refusal → Type 0
 IsCause files words before now refusals.Words = IsNoCommand words
 IsCause files words before now (refusals.Document role fault) = IsStopped files words role (Faulty fault)
 IsCause files words before now (refusals.Limit role count) = IsStopped files words role (TooMany count)
 IsCause files words before now (refusals.ReadFault role) = IsUnreadable files words before now role
-IsCause files words before now refusals.Example = IsWithoutRow files words
+IsCause files words before now (refusals.Example example) = (example ≡ examples.NoWanted) × IsWithoutRow files words
 IsCause files words before now refusals.Memory = IsSomeCommand words
-IsCause files words before now refusals.WriteFault = ⊥
+IsCause files words before now _ = ⊥
 
 -- why a command fails: there is no answer, or it could not be written
 abbrev pub IsReason : Files → List Word → ℕ → ℕ → Refusal → Type 0
 IsReason files words before now refusal = IsCause files words before now refusal ⊎ ((refusal ≡ refusals.WriteFault) × IsSomeCommand words)
 
 abbrev pub IsFailure : Files → List Word → ℕ → ℕ → Outcome → Type 0
-IsFailure files words before now outcomes.Done = ⊤
-IsFailure files words before now outcomes.Refused = ⊤
-IsFailure files words before now (outcomes.Failed refusal) = IsReason files words before now refusal
+IsFailure files words before now (Ok ending) = ⊤
+IsFailure files words before now (Err refusal) = IsReason files words before now refusal
 
 -- the folder tells its files, and its count of faults did not rise
 pub record IsQuiet (files : Files) (before now : ℕ) : Type 0 where

@@ -2,12 +2,13 @@
 use Rattle.std.specs.Prelude.{◌≡◌, ℕ, List, Option}
 use Rattle.bye_terms.specs.Terms.{Statement}
 use Rattle.bye_ntriples.specs.Canonical.{IsCanonical}
-use Rattle.bye_cli.specs.Words.{Word, IsConvert}
+use Rattle.bye_words.specs.Pairs.{Word}
+use Rattle.bye_cli.specs.Words.{IsConvert}
 use Rattle.bye_cli.specs.Documents.{Files, Triples, Good, HasVerdict}
 use Rattle.bye_cli.specs.Statuses.{Sends}
-use Rattle.bye_cli.specs.declared.refusal.Role.TheVariants.{Graph}
-use Rattle.bye_cli.specs.declared.status.Status.{Status}
-use Rattle.bye_cli.specs.declared.status.Status.TheVariants.{Done, Refused, Example}
+use Rattle.bye_words.specs.declared.role.Role.TheVariants.{Graph}
+use Rattle.bye_words.specs.declared.status.Status.{Status}
+use Rattle.bye_words.specs.declared.status.Status.TheVariants.{Done, Refused, Example}
 
 -- the words name a graph, which the document of this name says, within its limits
 pub record IsConvertible (files : Files) (words : List Word) (graph : List Statement) : Type 0 where

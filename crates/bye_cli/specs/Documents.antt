@@ -1,15 +1,16 @@
 -- The documents of a command, and what is to be said of their bytes.
 use Rattle.std.specs.Prelude.{◌≡◌, ℕ, ◌<◌, ◌≤◌, List, [], ◌∷◌, Option, Some, None, ⊤, length, ◌⊎◌, IsSomeAnd}
 use Rattle.bye_terms.specs.Terms.{Statement}
-use Rattle.bye_ntriples.specs.Answers.{IsGraph, IsSyntax, IsNotUtf8, Passes}
+use Rattle.bye_ntriples.specs.Answers.{IsGraph, IsSyntax, IsNotUtf8, Passes as PassesTriples}
 use Rattle.bye_pattern.specs.Tables.{TableValue, IsFirstTable}
-use Rattle.bye_cli.specs.Words.{Word, Command, Learn, Convert}
-use Rattle.bye_cli.specs.declared.refusal.Role.{Role}
-use Rattle.bye_cli.specs.declared.refusal.Role.TheVariants.{Graph, Wanted}
-use Rattle.bye_cli.specs.declared.refusal.Fault.{Fault}
-use Rattle.bye_cli.specs.declared.refusal.Fault.TheVariants as faults
-use Rattle.bye_cli.specs.declared.refusal.Count.{Count}
-use Rattle.bye_cli.specs.declared.refusal.Count.TheVariants as counts
+use Rattle.bye_words.specs.Pairs.{Word}
+use Rattle.bye_cli.specs.Words.{Command, Learn, Convert}
+use Rattle.bye_words.specs.declared.role.Role.{Role}
+use Rattle.bye_words.specs.declared.role.Role.TheVariants as roles
+use Rattle.bye_words.specs.declared.fault.Fault.{Fault}
+use Rattle.bye_words.specs.declared.fault.Fault.TheVariants as faults
+use Rattle.bye_words.specs.declared.count.Count.{Count}
+use Rattle.bye_words.specs.declared.count.Count.TheVariants as counts
 
 -- what a folder tells of its files: the bytes of each name
 abbrev pub Files : Type 0
@@ -36,13 +37,17 @@ Document = Role × Word
 
 -- the documents of a command, in the order in which they are read
 abbrev pub due : Command → List Document
-due (Learn graph wanted) = (Graph, graph) ∷ (Wanted, wanted) ∷ []
-due (Convert graph) = (Graph, graph) ∷ []
+due (Learn graph wanted) = (roles.Graph, graph) ∷ (roles.Wanted, wanted) ∷ []
+due (Convert graph) = (roles.Graph, graph) ∷ []
 
 -- the greatest number of bytes of a document
 abbrev pub limit_of : Role → ℕ
-limit_of Graph = 268435456
-limit_of Wanted = 67108864
+limit_of roles.Graph = 268435456
+limit_of roles.Wanted = 67108864
+limit_of roles.Unwanted = 67108864
+limit_of roles.Query = 16777216
+limit_of roles.Certificate = 67108864
+limit_of roles.Table = 67108864
 
 -- what a document says
 pub data Value : Type 0 where
@@ -51,25 +56,25 @@ pub data Value : Type 0 where
 
 -- the bytes are a document of the role's form, and say this
 abbrev pub Says : Role → List ℕ → Value → Type 0
-Says Graph bytes (Triples triples) = IsGraph bytes triples
-Says Graph bytes (Rows table) = ⊥
-Says Wanted bytes (Triples triples) = ⊥
-Says Wanted bytes (Rows table) = IsFirstTable bytes table
+Says roles.Graph bytes (Triples triples) = IsGraph bytes triples
+Says roles.Wanted bytes (Rows table) = IsFirstTable bytes table
+Says role bytes value = ⊥
 
 -- the bytes are not of the role's form: a graph stops being one at a place before too many triples, and a table is none
 abbrev pub Fails : Role → List ℕ → Fault → Type 0
-Fails Graph bytes (faults.Syntax place) = IsSyntax bytes place
-Fails Graph bytes (faults.NotUtf8 place) = IsNotUtf8 bytes place
-Fails Graph bytes faults.NotFirstForm = ⊥
-Fails Wanted bytes (faults.Syntax place) = ⊥
-Fails Wanted bytes (faults.NotUtf8 place) = ⊥
-Fails Wanted bytes faults.NotFirstForm = (table : TableValue) → IsFirstTable bytes table → ⊥
+Fails roles.Graph bytes fault =
+    ((place : ℕ) × (fault ≡ faults.Syntax place) × IsSyntax bytes place) ⊎ ((place : ℕ) × (fault ≡ faults.NotUtf8 place) × IsNotUtf8 bytes place)
+Fails roles.Wanted bytes fault = (fault ≡ faults.NotFirstForm) × ((table : TableValue) → IsFirstTable bytes table → ⊥)
+Fails role bytes fault = ⊥
 
--- the bytes are more than the role's limit; or they are not, and are a graph that has too many triples before any fault
+-- the bytes have too many of what the role counts in them: a graph that has too many triples before any fault
+abbrev pub Passes : Role → List ℕ → Count → Type 0
+Passes roles.Graph bytes count = (count ≡ counts.Triples) × PassesTriples bytes
+Passes role bytes count = ⊥
+
+-- the bytes are more than the role's limit; or they are not, and have too many of what the role counts in them
 abbrev pub HasTooMany : Role → List ℕ → Count → Type 0
-HasTooMany role bytes counts.Bytes = limit_of role < length bytes
-HasTooMany Graph bytes counts.Triples = (length bytes ≤ limit_of Graph) × Passes bytes
-HasTooMany Wanted bytes counts.Triples = ⊥
+HasTooMany role bytes count = ((count ≡ counts.Bytes) × (limit_of role < length bytes)) ⊎ ((length bytes ≤ limit_of role) × Passes role bytes count)
 
 -- the verdict on a document's bytes: they pass a limit, they are not of the form, or they say a value
 pub data Verdict : Type 0 where

@@ -5,12 +5,12 @@ use Rattle.bye_pattern.specs.Classes.{InAndPlain}
 use Rattle.bye_pattern.specs.Fitting.{NoFit}
 use Rattle.bye_pattern.specs.Learning.{wanted_of}
 use Rattle.bye_pattern.specs.Tables.{TableValue}
-use Rattle.bye_cli.specs.Words.{Word}
+use Rattle.bye_words.specs.Pairs.{Word}
 use Rattle.bye_cli.specs.Documents.{Files, IsTold}
 use Rattle.bye_cli.specs.Problem.{IsAsked, IsQueryText, IsRefusalLine}
 use Rattle.bye_cli.specs.Statuses.{IsAnswered, InUtf8, Sends}
-use Rattle.bye_cli.specs.declared.status.Status.{Status}
-use Rattle.bye_cli.specs.declared.status.Status.TheVariants.{Done, Refused, Memory}
+use Rattle.bye_words.specs.declared.status.Status.{Status}
+use Rattle.bye_words.specs.declared.status.Status.TheVariants.{Done, Refused, Memory}
 
 -- no query of the class has every wanted row among its answers
 abbrev pub NoneFits : List Statement → TableValue → Type 0

@@ -1,22 +1,21 @@
 -- What `learn` is asked and what it writes, and what a command writes.
 use Rattle.std.specs.Prelude.{◌≡◌, ℕ, ◌<◌, List, ◌++◌, ◌⊎◌, length, codes}
 use Rattle.std.specs.List.{AllByRecursion}
-use Rattle.std.specs.Str.{encode_utf8_all}
 use Rattle.bye_terms.specs.Terms.{Statement, IsTriple}
 use Rattle.bye_pattern.specs.Mappings.{Name}
 use Rattle.bye_pattern.specs.Trees.{Select}
 use Rattle.bye_pattern.specs.Printed.{query_text}
 use Rattle.bye_pattern.specs.Tables.{TableValue}
 use Rattle.bye_pattern.specs.Learning.{wanted_of, AreFull, IsLearnedQuery, IsJustRefused}
-use Rattle.bye_cli.specs.Words.{Word, IsLearn}
+use Rattle.bye_words.specs.Pairs.{Word}
+use Rattle.bye_cli.specs.Words.{IsLearn}
 use Rattle.bye_cli.specs.Documents.{Files, Triples, Rows, Good, HasVerdict}
 use Rattle.bye_cli.specs.Converting.{IsConverted}
 use Rattle.bye_cli.specs.Statuses.{InUtf8}
-use Rattle.bye_cli.specs.declared.refusal.Role.TheVariants.{Graph, Wanted}
-use Rattle.bye_cli.specs.declared.outcome.Outcome.{Outcome}
-use Rattle.bye_cli.specs.declared.outcome.Outcome.TheVariants as outcomes
+use Rattle.bye_words.specs.declared.role.Role.TheVariants.{Graph, Wanted}
+use Rattle.bye_cli.specs.declared.ending.Ending.TheVariants as endings
 use Rattle.bye_cli.specs.declared.answer.Answer.{Answer}
-use Rattle.bye_cli.specs.declared.answer.Answer.TheVariants as answers
+use Rattle.bye_cli.specs.declared.ending.Ending.{Ending}
 
 -- the words name a graph and a table, which the documents of these names say, within their limits
 pub record IsGiven (files : Files) (words : List Word) (graph : List Statement) (wanted : TableValue) : Type 0 where
@@ -71,31 +70,21 @@ IsRefusedOutput files words bytes = InUtf8 (IsRefusalText files words) bytes
 abbrev pub IsOutput : Files → List Word → List ℕ → Type 0
 IsOutput files words bytes = IsDoneOutput files words bytes ⊎ IsRefusedOutput files words bytes
 
--- what is to be written of a graph and a table
-abbrev pub IsWritten : List Statement → TableValue → Answer → Type 0
-IsWritten graph wanted (answers.Query text) = IsQueryText graph wanted text
-IsWritten graph wanted (answers.Refusal text) = IsRefusalLine graph wanted text
-IsWritten graph wanted (answers.Document bytes) = ⊥
+-- what is to be written of a graph and a table, where the command ends so
+abbrev pub IsWritten : List Statement → TableValue → Ending → List ℕ → Type 0
+IsWritten graph wanted endings.Done bytes = InUtf8 (IsQueryText graph wanted) bytes
+IsWritten graph wanted endings.Refused bytes = InUtf8 (IsRefusalLine graph wanted) bytes
 
 -- its triples have subjects and predicates, and its rows bind exactly the variables of the header
 pub record IsRead (graph : List Statement) (wanted : TableValue) : Type 0 where
   pub triples : AllByRecursion IsTriple graph
   pub full : AreFull wanted.header (wanted_of wanted)
 
--- what is to be written
+-- what is to be written, where the command ends so
+abbrev pub IsWrittenOf : Files → List Word → Ending → List ℕ → Type 0
+IsWrittenOf files words endings.Done bytes = IsDoneOutput files words bytes
+IsWrittenOf files words endings.Refused bytes = IsRefusedOutput files words bytes
+
+-- what is to be written, and how the command then ends
 abbrev pub IsAnswer : Files → List Word → Answer → Type 0
-IsAnswer files words (answers.Query text) = IsLearnedText files words text
-IsAnswer files words (answers.Refusal text) = IsRefusalText files words text
-IsAnswer files words (answers.Document bytes) = IsConverted files words bytes.items
-
--- the bytes that are written, texts in UTF-8
-abbrev pub output_of : Answer → List ℕ
-output_of (answers.Query text) = encode_utf8_all text
-output_of (answers.Refusal text) = encode_utf8_all text
-output_of (answers.Document bytes) = bytes.items
-
--- how a command ends that has written it
-abbrev pub outcome_of : Answer → Outcome
-outcome_of (answers.Query text) = outcomes.Done
-outcome_of (answers.Refusal text) = outcomes.Refused
-outcome_of (answers.Document bytes) = outcomes.Done
+IsAnswer files words answer = IsWrittenOf files words answer.ending answer.bytes.items

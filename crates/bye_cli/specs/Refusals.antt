@@ -3,12 +3,12 @@ use Rattle.bye_io.specs.declared.fault.ReadErr.{ReadErr}
 use Rattle.bye_io.specs.declared.fault.ReadErr.TheVariants as errors
 use Rattle.bye_ntriples.specs.declared.fault.NtErr.{NtErr}
 use Rattle.bye_ntriples.specs.declared.fault.NtErr.TheVariants as graph_errors
-use Rattle.bye_cli.specs.declared.refusal.Role.{Role}
-use Rattle.bye_cli.specs.declared.refusal.Role.TheVariants.{Graph}
-use Rattle.bye_cli.specs.declared.refusal.Fault.TheVariants as faults
-use Rattle.bye_cli.specs.declared.refusal.Count.TheVariants as counts
-use Rattle.bye_cli.specs.declared.refusal.Refusal.{Refusal}
-use Rattle.bye_cli.specs.declared.refusal.Refusal.TheVariants as refusals
+use Rattle.bye_words.specs.declared.role.Role.{Role}
+use Rattle.bye_words.specs.declared.role.Role.TheVariants.{Graph}
+use Rattle.bye_words.specs.declared.fault.Fault.TheVariants as faults
+use Rattle.bye_words.specs.declared.count.Count.TheVariants as counts
+use Rattle.bye_words.specs.declared.refusal.Refusal.{Refusal}
+use Rattle.bye_words.specs.declared.refusal.Refusal.TheVariants as refusals
 
 -- of a document whose bytes were not read
 abbrev pub refusal_of : Role → ReadErr → Refusal

@@ -1,26 +1,24 @@
 -- What the statuses say of the output.
-use Rattle.std.specs.Prelude.{◌≡◌, ℕ, List, Option, ⊤}
+use Rattle.std.specs.Prelude.{◌≡◌, ℕ, List, Option, Result, Ok, Err, ⊤}
 use Rattle.std.specs.Str.{encode_utf8_all}
 use Rattle.std.specs.Io.KnownBytes.{Appends}
 use Rattle.bye_io.specs.Bytes.{AppendsPart}
-use Rattle.bye_cli.specs.declared.refusal.Refusal.{Refusal}
-use Rattle.bye_cli.specs.declared.refusal.Refusal.TheVariants as refusals
-use Rattle.bye_cli.specs.declared.outcome.Outcome.{Outcome}
-use Rattle.bye_cli.specs.declared.outcome.Outcome.TheVariants as outcomes
-use Rattle.bye_cli.specs.declared.status.Status.{Status}
-use Rattle.bye_cli.specs.declared.status.Status.TheVariants as statuses
+use Rattle.bye_words.specs.Statuses.{status_of}
+use Rattle.bye_words.specs.declared.refusal.Refusal.{Refusal}
+use Rattle.bye_words.specs.declared.status.Status.{Status}
+use Rattle.bye_words.specs.declared.status.Status.TheVariants as statuses
+use Rattle.bye_cli.specs.declared.ending.Ending.{Ending}
+use Rattle.bye_cli.specs.declared.ending.Ending.TheVariants as endings
 
--- the number of a status, with which the process ends
-abbrev pub number_of : Status → ℕ
-number_of statuses.Done = 0
-number_of statuses.Refused = 1
-number_of statuses.Words = 2
-number_of statuses.Document = 3
-number_of statuses.Limit = 4
-number_of statuses.ReadFault = 5
-number_of statuses.WriteFault = 6
-number_of statuses.Memory = 7
-number_of statuses.Example = 9
+-- how a command ended: it was answered, or why not
+abbrev pub Outcome : Type 0
+Outcome = Result Ending Refusal
+
+-- the status of an outcome
+abbrev pub outcome_status : Outcome → Status
+outcome_status (Ok endings.Done) = statuses.Done
+outcome_status (Ok endings.Refused) = statuses.Refused
+outcome_status (Err refusal) = status_of refusal
 
 -- a status at which nothing was written
 abbrev pub IsSilent : Status → Type 0
@@ -47,19 +45,3 @@ IsAnswered statuses.Done = ⊤
 IsAnswered statuses.Refused = ⊤
 IsAnswered statuses.Memory = ⊤
 IsAnswered _ = ⊥
-
--- the status of a refusal
-abbrev pub status_of : Refusal → Status
-status_of refusals.Words = statuses.Words
-status_of (refusals.Document role fault) = statuses.Document
-status_of (refusals.Limit role count) = statuses.Limit
-status_of (refusals.ReadFault role) = statuses.ReadFault
-status_of refusals.WriteFault = statuses.WriteFault
-status_of refusals.Memory = statuses.Memory
-status_of refusals.Example = statuses.Example
-
--- the status of an outcome
-abbrev pub outcome_status : Outcome → Status
-outcome_status outcomes.Done = statuses.Done
-outcome_status outcomes.Refused = statuses.Refused
-outcome_status (outcomes.Failed refusal) = status_of refusal

@@ -2,23 +2,23 @@
 #![tactic(auto)]
 
 mod answer;
+mod command;
 mod converting;
-mod document;
+mod ending;
+mod graph_reader;
 mod learning;
-mod line;
-mod message;
-mod outcome;
+mod opening;
 mod program;
-mod refusal;
-mod status;
+mod reader;
+mod report;
 #[cfg(test)]
 mod tests;
-mod words;
+mod wanted_reader;
 
 use bye_io::{RealErr, RealFolder, RealOut};
 use bye_terms::{Memory, Text, push_item};
+use bye_words::Status;
 use program::run_program;
-use status::Status;
 use std::alloc::Global;
 use std::io::ErrorKind;
 use std::process::ExitCode;

@@ -1,28 +1,25 @@
 //! The top call.
 
-ghost use Rattle.std.specs.Prelude.{◌≡◌, ◌≤◌, ◌⊎◌, ◌↔◌, IfOk, IfErr, OnOk, OnErr};
-ghost use Rattle.std.specs.Io.KnownBytes.{Appends};
-ghost use Rattle.bye_io.specs.Bytes.{AppendsPart};
+ghost use Rattle.std.specs.Prelude.{◌≡◌, ◌≤◌, ◌⊎◌, ◌↔◌, IfOk, IfErr};
 ghost use Rattle.bye_io.specs.Counts.{Rose};
 ghost use Rattle.bye_cli.specs.Words.{IsNoCommand, IsSomeConvert};
-ghost use Rattle.bye_cli.specs.Problem.{IsDoneOutput, IsRefusedOutput, IsOutput, IsAnswer, output_of};
+ghost use Rattle.bye_cli.specs.Problem.{IsDoneOutput, IsRefusedOutput, IsOutput, IsAnswer};
 ghost use Rattle.bye_cli.specs.Converting.{IsConversion};
 ghost use Rattle.bye_cli.specs.Causes.{IsCause, IsFailure, IsFaulty, IsPast, IsMissing, IsWithoutRow, IsQuiet, IsAskedCase};
 ghost use Rattle.bye_cli.specs.Headline.{Headline};
 ghost use Rattle.bye_cli.specs.Messages.{IsMessage};
 ghost use Rattle.bye_cli.specs.Statuses.{IsSilent, IsAnswered, Sends, SendsPart, outcome_status};
-ghost use Rattle.bye_cli.specs.declared.refusal.Refusal.TheVariants as refusals;
+ghost use Rattle.bye_words.specs.declared.refusal.Refusal.TheVariants as refusals;
 
 use crate::answer::Answer;
+use crate::command::{Command, read_command};
 use crate::converting::converted;
+use crate::ending::Ending;
 use crate::learning::learned;
-use crate::message::report;
-use crate::outcome::Outcome;
-use crate::refusal::Refusal;
-use crate::status::Status;
-use crate::words::{Command, read_words};
-use bye_io::{Failed, Folder, Sink, write_all};
+use crate::report::report;
+use bye_io::{Folder, Sink, write_all};
 use bye_terms::Text;
+use bye_words::{Refusal, Status};
 use std::alloc::Global;
 
 fn answer<F: Folder>(alloc: Global, words: &[Text], folder: &mut F) -> Result<Answer, Refusal>
@@ -31,26 +28,10 @@ fn answer<F: Folder>(alloc: Global, words: &[Text], folder: &mut F) -> Result<An
     ensures files { F.files folder.new ≡ F.files folder.old }
     ensures later { F.faults folder.old ≤ F.faults folder.new }
 {
-    match read_words(words) {
-        Some(Command::Learn(names)) => learned(alloc, folder, names),
-        Some(Command::Convert(name)) => converted(alloc, folder, name),
+    match read_command(words) {
+        Some(Command::Learn { graph, wanted }) => learned(alloc, folder, graph, wanted),
+        Some(Command::Convert { graph }) => converted(alloc, folder, graph),
         None => Err(Refusal::Words),
-    }
-}
-
-/// Sends the whole answer, texts in UTF-8.
-fn send<S: Sink>(answer: &Answer, out: &mut S) -> Result<(), Failed>
-    ensures whole { OnOk result (Appends (S.sent out.old) (S.sent out.new) (output_of answer.now)) }
-    ensures part { OnErr result (AppendsPart (S.sent out.old) (S.sent out.new) (output_of answer.now)) }
-    ensures rose { OnErr result (Rose (S.faults out.old) (S.faults out.new)) }
-    ensures later { S.faults out.old ≤ S.faults out.new }
-    ensures doors { S.doors out.new ≡ S.doors out.old }
-    ensures aside { S.aside out.new ≡ S.aside out.old }
-{
-    match answer {
-        Answer::Query(text) => write_all(out, text.as_str().as_bytes()),
-        Answer::Refusal(text) => write_all(out, text.as_str().as_bytes()),
-        Answer::Document(bytes) => write_all(out, bytes.as_slice()),
     }
 }
 
@@ -60,11 +41,11 @@ fn perform<F: Folder, S: Sink>(
     words: &[Text],
     folder: &mut F,
     out: &mut S,
-) -> Outcome
-    ensures done { result ≡ Outcome.Done → Sends (IsDoneOutput (F.files folder.old) words.now) (S.sent out.old) (S.sent out.new) }
-    ensures refused { result ≡ Outcome.Refused → Sends (IsRefusedOutput (F.files folder.old) words.now) (S.sent out.old) (S.sent out.new) }
-    ensures write_fault { result ≡ Outcome.Failed refusals.WriteFault → SendsPart (IsOutput (F.files folder.old) words.now) (S.sent out.old) (S.sent out.new) }
-    ensures write_rose { result ≡ Outcome.Failed refusals.WriteFault → Rose (S.faults out.old) (S.faults out.new) }
+) -> Result<Ending, Refusal>
+    ensures done { result ≡ Ok Ending.Done → Sends (IsDoneOutput (F.files folder.old) words.now) (S.sent out.old) (S.sent out.new) }
+    ensures refused { result ≡ Ok Ending.Refused → Sends (IsRefusedOutput (F.files folder.old) words.now) (S.sent out.old) (S.sent out.new) }
+    ensures write_fault { result ≡ Err refusals.WriteFault → SendsPart (IsOutput (F.files folder.old) words.now) (S.sent out.old) (S.sent out.new) }
+    ensures write_rose { result ≡ Err refusals.WriteFault → Rose (S.faults out.old) (S.faults out.new) }
     ensures silent { IsSilent (outcome_status result) → S.sent out.new ≡ S.sent out.old }
     ensures failed { IsFailure (F.files folder.old) words.now (F.faults folder.old) (F.faults folder.new) result }
     ensures files { F.files folder.new ≡ F.files folder.old }
@@ -73,13 +54,10 @@ fn perform<F: Folder, S: Sink>(
     ensures out_doors { S.doors out.new ≡ S.doors out.old }
     ensures out_aside { S.aside out.new ≡ S.aside out.old }
 {
-    let answer = match answer(alloc, words, folder) {
-        Ok(answer) => answer,
-        Err(refusal) => return Outcome::Failed(refusal),
-    };
-    match send(&answer, out) {
-        Ok(()) => answer.outcome(),
-        Err(_) => Outcome::Failed(Refusal::WriteFault),
+    let answer = answer(alloc, words, folder)?;
+    match write_all(out, answer.bytes.as_slice()) {
+        Ok(()) => Ok(answer.ending),
+        Err(_) => Err(Refusal::WriteFault),
     }
 }
 
@@ -142,6 +120,5 @@ pub fn run_program<F: Folder, S: Sink, E: Sink>(
     ensures err_aside { E.aside err.new ≡ E.aside err.old }
 {
     let outcome = perform(alloc, words, folder, out);
-    report(outcome, err);
-    outcome.status()
+    report(outcome, err)
 }

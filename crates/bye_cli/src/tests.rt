@@ -1,12 +1,9 @@
 ghost use Rattle.std.specs.Prelude.{◌≤◌};
 
-use crate::message::report;
-use crate::outcome::Outcome;
 use crate::program::run_program;
-use crate::refusal::{Count, Fault, Refusal, Role};
-use crate::status::Status;
 use bye_io::{MemFolder, MemSink};
 use bye_terms::{Text, push_item};
+use bye_words::Status;
 use std::alloc::Global;
 use std::process::Abort;
 use std::test::Fail;
@@ -490,52 +487,5 @@ fn one_triple_past_the_limit_is_too_many(rt: HostRuntime) -> Result<(), Fail> {
         )?,
         (Status::Limit, true, true)
     );
-    Ok(())
-}
-
-#[test]
-fn each_refusal_has_its_line(rt: HostRuntime) -> Result<(), Fail> {
-    for (refusal, told) in [
-        (Refusal::Words, "sparqlbye: words\n"),
-        (
-            Refusal::Document(Role::Graph, Fault::Syntax(0)),
-            "sparqlbye: graph: fault at byte 0\n",
-        ),
-        (
-            Refusal::Document(Role::Graph, Fault::NotUtf8(1_048_576)),
-            "sparqlbye: graph: not UTF-8 at byte 1048576\n",
-        ),
-        (
-            Refusal::Document(Role::Wanted, Fault::Syntax(usize::MAX)),
-            "sparqlbye: wanted: fault at byte 18446744073709551615\n",
-        ),
-        (
-            Refusal::Document(Role::Wanted, Fault::NotUtf8(usize::MAX)),
-            "sparqlbye: wanted: not UTF-8 at byte 18446744073709551615\n",
-        ),
-        (
-            Refusal::Document(Role::Wanted, Fault::NotFirstForm),
-            "sparqlbye: wanted: not of the first form\n",
-        ),
-        (
-            Refusal::Limit(Role::Graph, Count::Bytes),
-            "sparqlbye: graph: too many bytes\n",
-        ),
-        (
-            Refusal::Limit(Role::Graph, Count::Triples),
-            "sparqlbye: graph: too many triples\n",
-        ),
-        (
-            Refusal::ReadFault(Role::Wanted),
-            "sparqlbye: wanted: read failed\n",
-        ),
-        (Refusal::WriteFault, "sparqlbye: write failed\n"),
-        (Refusal::Memory, "sparqlbye: no memory\n"),
-        (Refusal::Example, "sparqlbye: no wanted row\n"),
-    ] {
-        let mut err = sink(rt.alloc(), &[], 7)?;
-        report(Outcome::Failed(refusal), &mut err);
-        assert!(rt; err.sent() == told.as_bytes(), "{told}");
-    }
     Ok(())
 }

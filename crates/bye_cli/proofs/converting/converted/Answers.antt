@@ -1,7 +1,7 @@
 use Rattle.std.proofs.Common.{refl, inl, arith}
 use Rattle.std.proofs.lemmas.Result.{err_from_is_err_and}
 use Rattle.bye_cli.specs.Words.{Convert}
-use Rattle.bye_cli.specs.declared.refusal.Role.TheVariants.{Graph}
+use Rattle.bye_words.specs.declared.role.Role.TheVariants.{Graph}
 use Rattle.bye_cli.proofs.Unread.{reached_unread}
 use Rattle.bye_cli.proofs.converting.converted.Goals as goal
 

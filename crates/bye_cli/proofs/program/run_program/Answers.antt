@@ -1,13 +1,13 @@
 use Rattle.std.proofs.Common.{sym, subst}
 use Rattle.bye_io.specs.Counts.{Rose}
 use Rattle.bye_cli.specs.Messages.{IsMessage}
-use Rattle.bye_cli.specs.declared.status.Status.{Status}
+use Rattle.bye_words.specs.declared.status.Status.{Status}
 use Rattle.bye_cli.proofs.Exclusive.{Faults, Past, Missing, Bare}
 use Rattle.bye_cli.proofs.Settled.{Run, words_alone, settled, answered, headline, conversion, message}
 use Rattle.bye_cli.proofs.program.run_program.Given.{Over}
 use Rattle.bye_cli.proofs.program.run_program.Goals as goal
 
-run_of : (g : Over) (c : goal.After-status g)
+run_of : (g : Over) (c : goal.After-report g)
     → Run (g.F.Folder.files c.args.folder.now) c.args.words.now (g.F.Source.faults c.args.folder.now) (g.F.Source.faults c.perform-outcome.new.folder)
     (g.S.Sink.faults c.args.out.now) (g.S.Sink.faults c.perform-outcome.new.out) (g.S.Sink.sent c.args.out.now) (g.S.Sink.sent c.perform-outcome.new.out) c.perform-outcome.result
 run_of g c = record {
@@ -19,33 +19,33 @@ run_of g c = record {
 }
 
 pub returns-clause-headline : goal.returns-clause-headline
-returns-clause-headline g c = headline _ _ _ _ _ _ _ _ c.perform-outcome.result (run_of g c) c.status.result c.status.ensures
+returns-clause-headline g c = headline _ _ _ _ _ _ _ _ c.perform-outcome.result (run_of g c) c.report.result c.report.ensures.status
 
 pub returns-clause-converted : goal.returns-clause-converted
-returns-clause-converted g c = conversion _ _ _ _ _ _ _ _ c.perform-outcome.result (run_of g c) c.status.result c.status.ensures
+returns-clause-converted g c = conversion _ _ _ _ _ _ _ _ c.perform-outcome.result (run_of g c) c.report.result c.report.ensures.status
 
 pub returns-clause-err : goal.returns-clause-err
 returns-clause-err g c =
     subst
     (λ (status : Status). IsMessage (g.F.Folder.files c.args.folder.now) c.args.words.now (g.F.Source.faults c.args.folder.now) (g.F.Source.faults c.perform-outcome.new.folder) status
     (Rose (g.E.Sink.faults c.args.err.now) (g.E.Sink.faults c.report.new.err)) (g.E.Sink.sent c.args.err.now) (g.E.Sink.sent c.report.new.err))
-    (sym c.status.ensures)
+    (sym c.report.ensures.status)
     (message _ _ _ _ c.perform-outcome.result _ _ _ c.perform-outcome.ensures.failed c.report.ensures.sent)
 
 pub returns-clause-words : goal.returns-clause-words
-returns-clause-words g c = words_alone _ _ _ _ _ _ _ _ c.perform-outcome.result (run_of g c) c.status.result c.status.ensures
+returns-clause-words g c = words_alone _ _ _ _ _ _ _ _ c.perform-outcome.result (run_of g c) c.report.result c.report.ensures.status
 
 pub returns-clause-faulty : goal.returns-clause-faulty
-returns-clause-faulty g c = λ quiet stopped. settled _ _ _ _ _ _ _ _ c.perform-outcome.result (run_of g c) c.status.result c.status.ensures quiet Faults stopped
+returns-clause-faulty g c = λ quiet stopped. settled _ _ _ _ _ _ _ _ c.perform-outcome.result (run_of g c) c.report.result c.report.ensures.status quiet Faults stopped
 
 pub returns-clause-too_long : goal.returns-clause-too_long
-returns-clause-too_long g c = λ quiet stopped. settled _ _ _ _ _ _ _ _ c.perform-outcome.result (run_of g c) c.status.result c.status.ensures quiet Past stopped
+returns-clause-too_long g c = λ quiet stopped. settled _ _ _ _ _ _ _ _ c.perform-outcome.result (run_of g c) c.report.result c.report.ensures.status quiet Past stopped
 
 pub returns-clause-missing : goal.returns-clause-missing
-returns-clause-missing g c = λ quiet missing. settled _ _ _ _ _ _ _ _ c.perform-outcome.result (run_of g c) c.status.result c.status.ensures quiet Missing missing
+returns-clause-missing g c = λ quiet missing. settled _ _ _ _ _ _ _ _ c.perform-outcome.result (run_of g c) c.report.result c.report.ensures.status quiet Missing missing
 
 pub returns-clause-without_row : goal.returns-clause-without_row
-returns-clause-without_row g c = λ quiet bare. settled _ _ _ _ _ _ _ _ c.perform-outcome.result (run_of g c) c.status.result c.status.ensures quiet Bare bare
+returns-clause-without_row g c = λ quiet bare. settled _ _ _ _ _ _ _ _ c.perform-outcome.result (run_of g c) c.report.result c.report.ensures.status quiet Bare bare
 
 pub returns-clause-complete : goal.returns-clause-complete
-returns-clause-complete g c = answered _ _ _ _ _ _ _ _ c.perform-outcome.result (run_of g c) c.status.result c.status.ensures
+returns-clause-complete g c = answered _ _ _ _ _ _ _ _ c.perform-outcome.result (run_of g c) c.report.result c.report.ensures.status

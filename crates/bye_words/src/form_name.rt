@@ -1,0 +1,6 @@
+/// What names a form of the words.
+#[derive(Debug, Clone, Copy, PartialEq, Eq)]
+pub enum FormName {
+    Learn,
+    Convert,
+}
