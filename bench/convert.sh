@@ -6,7 +6,7 @@ set -eu
 root=$(cd "$(dirname "${BASH_SOURCE[0]}")/.." && pwd)
 folder=$(mktemp -d)
 trap 'rm -rf "$folder"' EXIT
-"$root/sparqlbye" convert > "$folder/out" 2> "$folder/err" || true # builds the program where that is needed
+"$root/sparqlbye" convert --graph "$root/examples/editors.nt" > "$folder/out" # builds the program where that is needed
 for people in 10000 100000 400000; do
   "$root/bench/people.sh" "$people" > "$folder/$people.nt"
 done
