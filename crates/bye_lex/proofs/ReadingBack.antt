@@ -15,7 +15,8 @@ use Rattle.bye_lex.specs.Strings.{mark_of, has_quoting, is_tsv, IsStringPiece, S
 use Rattle.bye_lex.specs.IriSteps as iri
 use Rattle.bye_lex.specs.StringSteps as string
 use Rattle.bye_lex.specs.Written.{escaped_in}
-use Rattle.bye_lex.specs.ReadingBack.{NotLonger, SuffixText, IsTagged, quoted, EndsLiteral, ReadsBack}
+use Rattle.bye_terms.specs.Valid.{IsTagged}
+use Rattle.bye_lex.specs.ReadingBack.{NotLonger, SuffixText, quoted, EndsLiteral, ReadsBack}
 use Rattle.bye_lex.specs.declared.style.Style.{Style}
 use Rattle.bye_lex.specs.declared.style.Style.TheVariants.{Triples, Tsv, Query}
 use Rattle.bye_lex.specs.declared.quoting.Quote.{Quote}

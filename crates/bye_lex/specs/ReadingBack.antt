@@ -2,7 +2,7 @@
 use Rattle.std.specs.Prelude.{◌≡◌, ◌<◌, ℕ, true, List, [], ◌∷◌, ◌++◌, Option, Some, None, ◌⊎◌, length, codes}
 use Rattle.std.specs.List.{flat_map}
 use Rattle.bye_terms.specs.Literals.{LiteralValue, lang_string, xsd_string}
-use Rattle.bye_terms.specs.Names.{is_iri, is_label, is_tag}
+use Rattle.bye_terms.specs.Valid.{IsTerm}
 use Rattle.bye_terms.specs.declared.term.Term.{Term}
 use Rattle.bye_terms.specs.declared.term.Term.TheVariants.{Iri, Blank, Lit}
 use Rattle.bye_lex.specs.Languages.{Token}
@@ -39,17 +39,6 @@ abbrev pub TermText : Style → List ℕ → List ℕ → Term → Type 0
 TermText style text rest (Iri iri) = Token (IriToken style) text rest iri
 TermText style text rest (Blank label) = Token LabelToken text rest label
 TermText style text rest (Lit literal) = LiteralText style text rest literal
-
--- a literal has a tag exactly where its datatype is rdf:langString
-abbrev pub IsTagged : Option (List ℕ) → List ℕ → Type 0
-IsTagged (Some tag) datatype = (is_tag tag ≡ true) × (datatype ≡ lang_string)
-IsTagged None datatype = (is_iri datatype ≡ true) × (datatype ≡ lang_string → ⊥)
-
--- a term of RDF (RDF 1.1 Concepts, section 3)
-abbrev pub IsTerm : Term → Type 0
-IsTerm (Iri iri) = is_iri iri ≡ true
-IsTerm (Blank label) = is_label label ≡ true
-IsTerm (Lit literal) = IsTagged literal.tag literal.datatype
 
 -- what is written of a string, in its quotes
 abbrev pub quoted : Style → List ℕ → List ℕ

@@ -10,7 +10,8 @@ use Rattle.bye_terms.specs.Terms.{Statement, is_subject, is_iri_term}
 use Rattle.bye_terms.specs.declared.term.Term.{Term}
 use Rattle.bye_terms.specs.declared.term.Term.TheVariants.{Iri, Blank, Lit}
 use Rattle.bye_terms.proofs.Members.{all_in, all_from}
-use Rattle.bye_lex.specs.ReadingBack.{DatatypeText, SuffixText, IsTagged, IsTerm}
+use Rattle.bye_terms.specs.Valid.{IsTagged, IsTerm}
+use Rattle.bye_lex.specs.ReadingBack.{DatatypeText, SuffixText}
 use Rattle.bye_lex.specs.declared.style.Style.TheVariants.{Triples}
 use Rattle.bye_lex.proofs.Branches.{scalars_join}
 use Rattle.bye_ntriples.specs.Canonical.{line_text, line_bytes, IsStatement, CanonicalReadsBack}

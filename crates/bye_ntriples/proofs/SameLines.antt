@@ -12,7 +12,8 @@ use Rattle.bye_terms.specs.declared.term.Term.TheVariants.{Iri, Blank, Lit}
 use Rattle.bye_terms.proofs.Tests.{both_parts, one_part}
 use Rattle.bye_lex.specs.Marks.{LabelToken, TagToken}
 use Rattle.bye_lex.specs.Strings.{StringToken}
-use Rattle.bye_lex.specs.ReadingBack.{quoted, NotLonger, IsTerm, EndsThere, EndsLiteral, TermText}
+use Rattle.bye_terms.specs.Valid.{IsTerm}
+use Rattle.bye_lex.specs.ReadingBack.{quoted, NotLonger, EndsThere, EndsLiteral, TermText}
 use Rattle.bye_lex.specs.Written.{written}
 use Rattle.bye_lex.specs.declared.style.Style.TheVariants.{Triples}
 use Rattle.bye_lex.proofs.Branches.{heads}

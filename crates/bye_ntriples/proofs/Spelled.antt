@@ -1,30 +1,17 @@
 -- What is known of the terms of a triple.
-use Rattle.std.proofs.Common.{◌≡◌, refl, ℕ, true, List, [], ◌∷◌, ◌++◌, Option, Some, None, codes, flat_map, length, sym, ◌∙◌, ap, append_assoc}
+use Rattle.std.proofs.Common.{◌≡◌, refl, ℕ, true, List, [], ◌∷◌, ◌++◌, codes, flat_map, length, sym, ◌∙◌, ap, append_assoc}
 use Rattle.std.specs.List.{AllByRecursion}
 use Rattle.std.proofs.lemmas.Grind.{flat_map-append}
 use Rattle.std.proofs.lemmas.List.{append-nil, map-append}
 use Rattle.std.specs.Str.{encode_utf8_all, all_scalars}
 use Rattle.std.proofs.lemmas.Str.{encodes-append}
 use Rattle.bye_terms.specs.Spellings.{term_text, term_bytes}
-use Rattle.bye_terms.specs.Valid as valid
 use Rattle.bye_terms.specs.Valid.{IsRdfTerm}
 use Rattle.bye_terms.specs.declared.term.Term.{Term}
-use Rattle.bye_terms.specs.declared.term.Term.TheVariants.{Iri, Blank, Lit}
 use Rattle.bye_lex.proofs.Branches.{scalars_join}
-use Rattle.bye_lex.specs.ReadingBack as tokens
 use Rattle.bye_terms.specs.Terms.{Statement, IsTriple}
 use Rattle.bye_ntriples.specs.Canonical.{line_text, line_bytes, IsStatement}
 use Rattle.bye_ntriples.specs.Writing.{AreSpelled, IsAdded}
-
--- a term of RDF, in the words of the tokens
-tagged : (tag : Option (List ℕ)) (datatype : List ℕ) → valid.IsTagged tag datatype → tokens.IsTagged tag datatype
-tagged None datatype h = h
-tagged (Some tag) datatype h = h
-
-of_tokens : (t : Term) → valid.IsTerm t → tokens.IsTerm t
-of_tokens (Iri iri) h = h
-of_tokens (Blank label) h = h
-of_tokens (Lit l) h = tagged l.tag l.datatype h
 
 -- a line by its parts
 line_scalars : (t : Statement) → all_scalars (term_text t.s) ≡ true → all_scalars (term_text t.p) ≡ true → all_scalars (term_text t.o) ≡ true → all_scalars (line_text t) ≡ true
@@ -37,9 +24,9 @@ line_scalars t s p o =
 
 pub statement : (t : Statement) → IsRdfTerm t.s → IsRdfTerm t.p → IsRdfTerm t.o → IsTriple t → IsStatement t
 statement t s p o parts = record {
-  subject = of_tokens t.s s.is;
-  predicate = of_tokens t.p p.is;
-  object = of_tokens t.o o.is;
+  subject = s.is;
+  predicate = p.is;
+  object = o.is;
   parts = parts;
   scalars = line_scalars t s.scalars p.scalars o.scalars;
 }

@@ -9,7 +9,7 @@ use Rattle.std.specs.declared.cmp.Ordering.TheVariants.{Less}
 use Rattle.bye_terms.specs.Members.{In}
 use Rattle.bye_terms.specs.Spellings.{term_text}
 use Rattle.bye_terms.specs.Terms.{Statement, IsTriple}
-use Rattle.bye_lex.specs.ReadingBack.{IsTerm}
+use Rattle.bye_terms.specs.Valid.{IsTerm}
 use Rattle.bye_ntriples.specs.Documents.{NtDoc}
 
 -- the line of a triple: the three, a space after each, a dot and LF

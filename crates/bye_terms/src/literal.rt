@@ -105,7 +105,7 @@ impl Literal {
         })
     }
 
-    /// The literal, as one of RDF.
+    /// The literal, which its parts tell to be one of RDF.
     pub fn as_rdf(&self) -> &Literal
         ensures same { result.now ≡ self.now }
         ensures valid { IsRdfTerm (terms.Lit self.now) }

@@ -37,7 +37,7 @@ fn unescaped<'a>(head: &'a [u8], text: &'a Text, last: &'a [u8]) -> Spelling<'a>
 }
 
 impl Term {
-    /// The term, as one of RDF.
+    /// The term, which its parts tell to be one of RDF.
     pub fn as_rdf(&self) -> &Term
         ensures same { result.now ≡ self.now }
         ensures valid { IsRdfTerm self.now }

@@ -45,7 +45,7 @@ impl Text {
         self.text.as_str()
     }
 
-    /// The text, as one of whose characters each is a Unicode scalar value.
+    /// The text. Each of its characters is a Unicode scalar value.
     pub fn as_unicode(&self) -> &Text
         ensures same { result.now ≡ self.now }
         ensures scalars { IsTrue (all_scalars self.now) }
