@@ -1,5 +1,5 @@
 -- The words of a command say one command.
-use Rattle.std.proofs.Common.{◌≡◌, refl, ℕ, List, [], get_or, codes, inl, inr, sym, ◌∙◌, ap, subst, arith}
+use Rattle.std.proofs.Common.{◌≡◌, ℕ, List, [], get_or, codes, sym, ◌∙◌, ap, subst, arith}
 use Rattle.std.specs.List.{flat_map}
 use Rattle.bye_terms.specs.Members.{In}
 use Rattle.bye_words.specs.Pairs.{Word, Setting, setting_words}

@@ -36,6 +36,7 @@ fn answer<F: Folder>(alloc: Global, words: &[Text], folder: &mut F) -> Result<An
 }
 
 /// Runs the command that the words give, but for what goes to `err`.
+#[tactic(auto, using(crate::proofs::Asked::answer_command, crate::proofs::Asked::is_output))]
 fn perform<F: Folder, S: Sink>(
     alloc: Global,
     words: &[Text],

@@ -1,5 +1,3 @@
-ghost use Rattle.std.specs.Prelude.{◌≤◌};
-
 use crate::program::run_program;
 use bye_io::{MemFolder, MemSink};
 use bye_terms::{Text, push_item};
@@ -20,6 +18,9 @@ const LEARN: &str = "learn --graph g --wanted w";
 
 const CONVERT: &str = "convert --graph g";
 
+// What a run gives: the status, and the texts that were sent to `out` and to `err`.
+type Ended = (Status, String, String);
+
 fn words(alloc: Global, line: &str) -> Result<Vec<Text>, Fail> {
     let mut words = Vec::new(alloc);
     for word in line.split(' ') {
@@ -28,78 +29,119 @@ fn words(alloc: Global, line: &str) -> Result<Vec<Text>, Fail> {
     Ok(words)
 }
 
-// A folder with this graph `g`, this table `w` and this file `long`.
+// A folder with this graph `g` and this table `w`.
 fn folder(
     rt: &impl Abort,
     alloc: Global,
-    graph: &[u8],
-    wanted: &str,
-    long: Vec<u8>,
+    graph: Vec<u8>,
+    wanted: Vec<u8>,
     fails: &[u64],
     most: u64,
-) -> Result<MemFolder, Fail>
-    requires { 1 ≤ most }
-{
+) -> Result<MemFolder, Fail> {
     let mut files = Vec::new(alloc);
-    files.push((Text::copy_of(alloc, "g")?, Vec::from_slice(alloc, graph)?))?;
-    files.push((
-        Text::copy_of(alloc, "w")?,
-        Vec::from_slice(alloc, wanted.as_bytes())?,
-    ))?;
-    files.push((Text::copy_of(alloc, "long")?, long))?;
+    files.push((Text::copy_of(alloc, "g")?, graph))?;
+    files.push((Text::copy_of(alloc, "w")?, wanted))?;
     assert!(rt; MemFolder::are_distinct(&files));
-    Ok(MemFolder::new(files, Vec::from_slice(alloc, fails)?, most))
+    Ok(MemFolder::new(files, Vec::from_slice(alloc, fails)?, most.max(1)))
 }
 
-fn sink(alloc: Global, fails: &[u64], most: u64) -> Result<MemSink, Fail>
-    requires { 1 ≤ most }
-{
-    Ok(MemSink::new(alloc, 1000, Vec::from_slice(alloc, fails)?, most)?)
+fn sink(alloc: Global, room: u64, fails: &[u64], most: u64) -> Result<MemSink, Fail> {
+    Ok(MemSink::new(alloc, room, Vec::from_slice(alloc, fails)?, most.max(1))?)
 }
 
-// Runs the line of words, and tells the status and whether these texts were sent to `out` and to `err`.
 fn ends(
     alloc: Global,
     line: &str,
-    folder: &mut MemFolder,
-    out: &mut MemSink,
-    err: &mut MemSink,
-    sent: &str,
-    told: &str,
-) -> Result<(Status, bool, bool), Fail> {
+    mut folder: MemFolder,
+    mut out: MemSink,
+    mut err: MemSink,
+) -> Result<Ended, Fail> {
     let words = words(alloc, line)?;
-    let status = run_program(alloc, words.as_slice(), folder, out, err);
+    let status = run_program(alloc, words.as_slice(), &mut folder, &mut out, &mut err);
     Ok((
         status,
-        out.sent() == sent.as_bytes(),
-        err.sent() == told.as_bytes(),
+        String::from_str(alloc, std::str::from_utf8(out.sent())?)?,
+        String::from_str(alloc, std::str::from_utf8(err.sent())?)?,
     ))
 }
 
-// The same of a graph and a table, where no call fails.
+// Compares how a run ended, and what was sent.
+fn is_end(rt: &impl Abort, name: &str, end: &Ended, status: Status, sent: &str, told: &str) {
+    let (ended, out, err) = end;
+    assert_eq!(rt; *ended, status, "{name}");
+    assert_eq!(rt; out.as_str(), sent, "{name}");
+    assert_eq!(rt; err.as_str(), told, "{name}");
+}
+
+// A run where no call fails.
 fn runs(
     rt: &impl Abort,
     alloc: Global,
     line: &str,
     graph: &[u8],
     wanted: &str,
-    sent: &str,
-    told: &str,
-) -> Result<(Status, bool, bool), Fail> {
-    let mut folder = folder(rt, alloc, graph, wanted, Vec::new(alloc), &[], 100)?;
-    let mut out = sink(alloc, &[], 100)?;
-    let mut err = sink(alloc, &[], 100)?;
-    ends(alloc, line, &mut folder, &mut out, &mut err, sent, told)
+) -> Result<Ended, Fail> {
+    let graph = Vec::from_slice(alloc, graph)?;
+    let wanted = Vec::from_slice(alloc, wanted.as_bytes())?;
+    let folder = folder(rt, alloc, graph, wanted, &[], 100)?;
+    let out = sink(alloc, 1000, &[], 100)?;
+    let err = sink(alloc, 1000, &[], 100)?;
+    ends(alloc, line, folder, out, err)
 }
 
 #[test]
 fn documents_and_words_decide(rt: HostRuntime) -> Result<(), Fail> {
-    for (name, line, wanted, status, sent, told) in [
-        ("a shared type", LEARN, WANTED, Status::Done, QUERY, ""),
+    for (name, line, graph, wanted, status, sent, told) in [
+        (
+            "a shared type",
+            LEARN,
+            GRAPH,
+            WANTED,
+            Status::Done,
+            QUERY,
+            "",
+        ),
+        (
+            "the table first",
+            "learn --wanted w --graph g",
+            GRAPH,
+            WANTED,
+            Status::Done,
+            QUERY,
+            "",
+        ),
         (
             "a term in no triple",
             LEARN,
+            GRAPH,
             "?x\n<http://e/a>\n<http://e/z>\n",
+            Status::Refused,
+            "uncovered ?x\n",
+            "",
+        ),
+        (
+            "a literal that both have",
+            LEARN,
+            "<http://e/a> <http://e/says> \"q\\\"\\\\\\n\\tz\" .\n<http://e/b> <http://e/says> \"q\\\"\\\\\\n\\tz\" .\n",
+            WANTED,
+            Status::Done,
+            "SELECT DISTINCT ?x\nWHERE {\n  ?x <http://e/says> \"q\\\"\\\\\\n\tz\" .\n}\n",
+            "",
+        ),
+        (
+            "a literal with a tag",
+            LEARN,
+            "<http://e/a> <http://e/name> \"A\"@en .\n<http://e/b> <http://e/name> \"A\"@en .\n<http://e/b> <http://e/name> \"A\" .\n",
+            WANTED,
+            Status::Done,
+            "SELECT DISTINCT ?x\nWHERE {\n  ?x <http://e/name> \"A\"@en .\n}\n",
+            "",
+        ),
+        (
+            "a blank node that both have",
+            LEARN,
+            "<http://e/a> <http://e/p> _:k .\n<http://e/b> <http://e/p> _:k .\n",
+            WANTED,
             Status::Refused,
             "uncovered ?x\n",
             "",
@@ -107,6 +149,7 @@ fn documents_and_words_decide(rt: HostRuntime) -> Result<(), Fail> {
         (
             "no row",
             LEARN,
+            GRAPH,
             "?x\n",
             Status::Example,
             "",
@@ -115,22 +158,16 @@ fn documents_and_words_decide(rt: HostRuntime) -> Result<(), Fail> {
         (
             "no table",
             LEARN,
+            GRAPH,
             "x\n",
             Status::Document,
             "",
             "sparqlbye: wanted: not of the first form\n",
         ),
         (
-            "the table first",
-            "learn --wanted w --graph g",
-            WANTED,
-            Status::Done,
-            QUERY,
-            "",
-        ),
-        (
             "no such table",
             "learn --graph g --wanted u",
+            GRAPH,
             WANTED,
             Status::ReadFault,
             "",
@@ -139,6 +176,7 @@ fn documents_and_words_decide(rt: HostRuntime) -> Result<(), Fail> {
         (
             "no such graph",
             "convert --graph u",
+            GRAPH,
             WANTED,
             Status::ReadFault,
             "",
@@ -147,6 +185,7 @@ fn documents_and_words_decide(rt: HostRuntime) -> Result<(), Fail> {
         (
             "no graph, and no such table",
             "learn --graph w --wanted u",
+            GRAPH,
             WANTED,
             Status::Document,
             "",
@@ -155,23 +194,53 @@ fn documents_and_words_decide(rt: HostRuntime) -> Result<(), Fail> {
         (
             "no graph, and no row",
             "learn --graph w --wanted w",
+            GRAPH,
             "?x\n",
             Status::Document,
             "",
             "sparqlbye: graph: fault at byte 0\n",
         ),
+        (
+            "no space between terms",
+            CONVERT,
+            "<http://e/a><http://e/p>_:b.",
+            WANTED,
+            Status::Done,
+            "<http://e/a> <http://e/p> _:b .\n",
+            "",
+        ),
+        ("an empty graph", CONVERT, "", WANTED, Status::Done, "", ""),
+        (
+            "spaces around the carets",
+            CONVERT,
+            "<http://e/a> <http://e/p> \"1\" ^^ <http://e/t> .\n",
+            WANTED,
+            Status::Done,
+            "<http://e/a> <http://e/p> \"1\"^^<http://e/t> .\n",
+            "",
+        ),
+        (
+            "a triple in two spellings",
+            CONVERT,
+            "<http://e/b> <http://e/p> \"\\u00e9\"@en . # last\n\n<http://e/a> <http://e/p> <http://e/b> .\r\n<http://e/b> <http://e/p> \"\u{E9}\"@en.",
+            WANTED,
+            Status::Done,
+            "<http://e/a> <http://e/p> <http://e/b> .\n<http://e/b> <http://e/p> \"\u{E9}\"@en .\n",
+            "",
+        ),
+        (
+            "the order of bytes",
+            CONVERT,
+            "<http://e/a> <http://e/p1> \"q\\\"\\\\\\n\\tz\" .\n<http://e/a> <http://e/p10> _:b .\n",
+            WANTED,
+            Status::Done,
+            "<http://e/a> <http://e/p10> _:b .\n<http://e/a> <http://e/p1> \"q\\\"\\\\\\n\tz\" .\n",
+            "",
+        ),
     ] {
-        assert_eq!(rt;
-            runs(&rt, rt.alloc(), line, GRAPH.as_bytes(), wanted, sent, told)?,
-            (status, true, true),
-            "{name}"
-        );
+        let end = runs(&rt, rt.alloc(), line, graph.as_bytes(), wanted)?;
+        is_end(&rt, name, &end, status, sent, told);
     }
-    Ok(())
-}
-
-#[test]
-fn other_words_are_no_command(rt: HostRuntime) -> Result<(), Fail> {
     for line in [
         "",
         "learn",
@@ -186,50 +255,17 @@ fn other_words_are_no_command(rt: HostRuntime) -> Result<(), Fail> {
         "convert --graph g --graph g",
         "Convert --graph g",
     ] {
-        assert_eq!(rt;
-            runs(
-                &rt,
-                rt.alloc(),
-                line,
-                GRAPH.as_bytes(),
-                WANTED,
-                "",
-                "sparqlbye: words\n"
-            )?,
-            (Status::Words, true, true),
-            "{line}"
-        );
+        let end = runs(&rt, rt.alloc(), line, GRAPH.as_bytes(), WANTED)?;
+        is_end(&rt, line, &end, Status::Words, "", "sparqlbye: words\n");
     }
     Ok(())
 }
 
-#[test]
-fn graphs_are_converted(rt: HostRuntime) -> Result<(), Fail> {
-    let cases: [(&[u8], &str); 5] = [
-        (
-            b"<http://e/a><http://e/p>_:b.",
-            "<http://e/a> <http://e/p> _:b .\n",
-        ),
-        (b"", ""),
-        (
-            b"<http://e/a> <http://e/p> \"1\" ^^ <http://e/t> .\n",
-            "<http://e/a> <http://e/p> \"1\"^^<http://e/t> .\n",
-        ),
-        (
-            b"<http://e/b> <http://e/p> \"\\u00e9\"@en . # last\n\n<http://e/a> <http://e/p> <http://e/b> .\r\n<http://e/b> <http://e/p> \"\xC3\xA9\"@en.",
-            "<http://e/a> <http://e/p> <http://e/b> .\n<http://e/b> <http://e/p> \"\u{e9}\"@en .\n",
-        ),
-        (
-            b"<http://e/a> <http://e/p1> \"q\\\"\\\\\\n\\tz\" .\n<http://e/a> <http://e/p10> _:b .\n",
-            "<http://e/a> <http://e/p10> _:b .\n<http://e/a> <http://e/p1> \"q\\\"\\\\\\n\tz\" .\n",
-        ),
-    ];
-    for (index, (graph, sent)) in cases.iter().enumerate() {
-        assert_eq!(rt;
-            runs(&rt, rt.alloc(), CONVERT, graph, WANTED, sent, "")?,
-            (Status::Done, true, true),
-            "at {index}"
-        );
+// Both commands refuse the graph with this line.
+fn has_fault(rt: &impl Abort, alloc: Global, graph: &[u8], told: &str) -> Result<(), Fail> {
+    for line in [LEARN, CONVERT] {
+        let end = runs(rt, alloc, line, graph, WANTED)?;
+        is_end(rt, line, &end, Status::Document, "", told);
     }
     Ok(())
 }
@@ -264,200 +300,185 @@ fn places_of_faults_are_told(rt: HostRuntime) -> Result<(), Fail> {
             "sparqlbye: graph: fault at byte 85\n",
         ),
     ];
-    for (index, (graph, told)) in cases.iter().enumerate() {
-        for line in [LEARN, CONVERT] {
-            assert_eq!(rt;
-                runs(&rt, rt.alloc(), line, graph, WANTED, "", told)?,
-                (Status::Document, true, true),
-                "{line} at {index}"
-            );
-        }
+    for (graph, told) in cases {
+        has_fault(&rt, rt.alloc(), graph, told)?;
     }
     Ok(())
 }
 
-#[test]
-fn literals_are_constants_and_blank_nodes_are_none(rt: HostRuntime) -> Result<(), Fail> {
-    for (name, graph, status, sent) in [
-        (
-            "a literal that both have",
-            "<http://e/a> <http://e/says> \"q\\\"\\\\\\n\\tz\" .\n<http://e/b> <http://e/says> \"q\\\"\\\\\\n\\tz\" .\n",
-            Status::Done,
-            "SELECT DISTINCT ?x\nWHERE {\n  ?x <http://e/says> \"q\\\"\\\\\\n\tz\" .\n}\n",
-        ),
-        (
-            "a literal with a tag",
-            "<http://e/a> <http://e/name> \"A\"@en .\n<http://e/b> <http://e/name> \"A\"@en .\n<http://e/b> <http://e/name> \"A\" .\n",
-            Status::Done,
-            "SELECT DISTINCT ?x\nWHERE {\n  ?x <http://e/name> \"A\"@en .\n}\n",
-        ),
-        (
-            "a blank node that both have",
-            "<http://e/a> <http://e/p> _:k .\n<http://e/b> <http://e/p> _:k .\n",
-            Status::Refused,
-            "uncovered ?x\n",
-        ),
-    ] {
-        assert_eq!(rt;
-            runs(&rt, rt.alloc(), LEARN, graph.as_bytes(), WANTED, sent, "")?,
-            (status, true, true),
-            "{name}"
-        );
+// Runs the line where these calls of the folder and of `out` fail and one call takes so much, also with faults of `err`.
+fn decides(
+    rt: &impl Abort,
+    alloc: Global,
+    line: &str,
+    wanted: &str,
+    calls: (&[u64], &[u64], u64),
+    status: Status,
+    sent: &str,
+    told: &str,
+) -> Result<(), Fail> {
+    let (reads, writes, most) = calls;
+    // The calls of `err` that fail, and the part of a line that is sent then.
+    let none: &[u64] = &[];
+    for (tells, part) in [(none, told), (&[1], ""), (&[2], "sparqlbye:")] {
+        let graph = Vec::from_slice(alloc, GRAPH.as_bytes())?;
+        let wanted = Vec::from_slice(alloc, wanted.as_bytes())?;
+        let folder = folder(rt, alloc, graph, wanted, reads, most)?;
+        let out = sink(alloc, 1000, writes, most)?;
+        let err = sink(alloc, 1000, tells, 10)?;
+        let end = ends(alloc, line, folder, out, err)?;
+        let part = if told.is_empty() { "" } else { part };
+        is_end(rt, line, &end, status, sent, part);
     }
     Ok(())
 }
 
 #[test]
 fn faults_decide(rt: HostRuntime) -> Result<(), Fail> {
-    let alloc = rt.alloc();
-    // The numbers of the folder's calls that fail, those of `out` and those of `err`, and how much one call takes.
+    const NO_GRAPH: &str = "sparqlbye: graph: read failed\n";
+    const NO_TABLE: &str = "sparqlbye: wanted: read failed\n";
+    const UNSENT: &str = "sparqlbye: write failed\n";
+    // The numbers of the folder's calls that fail, those of `out`, and how much one call takes.
+    // Each of two documents is opened, read and read at its end.
     let none: &[u64] = &[];
-    for (name, reads, writes, tells, most, status, sent, told) in [
+    for (reads, writes, most, status, sent, told) in [
+        (none, none, 3, Status::Done, QUERY, ""),
+        (&[1], none, 1000, Status::ReadFault, "", NO_GRAPH),
+        (&[2], none, 1000, Status::ReadFault, "", NO_GRAPH),
+        (&[3], none, 1000, Status::ReadFault, "", NO_GRAPH),
+        (&[4], none, 1000, Status::ReadFault, "", NO_TABLE),
+        (&[5], none, 1000, Status::ReadFault, "", NO_TABLE),
+        (&[6], none, 1000, Status::ReadFault, "", NO_TABLE),
+        (&[7], none, 1000, Status::Done, QUERY, ""),
+        (&[4], none, 100, Status::ReadFault, "", NO_GRAPH),
+        (none, &[1], 100, Status::WriteFault, "", UNSENT),
+        (none, &[2], 10, Status::WriteFault, "SELECT DIS", UNSENT),
+    ] {
+        decides(
+            &rt,
+            rt.alloc(),
+            LEARN,
+            WANTED,
+            (reads, writes, most),
+            status,
+            sent,
+            told,
+        )?;
+    }
+    // No fault of `err` changes any other status.
+    for (line, wanted, status, sent, told) in [
+        ("learn", WANTED, Status::Words, "", "sparqlbye: words\n"),
         (
-            "three bytes at a time",
-            none,
-            none,
-            none,
-            3,
-            Status::Done,
-            QUERY,
+            LEARN,
+            "x",
+            Status::Document,
             "",
+            "sparqlbye: wanted: not of the first form\n",
         ),
         (
-            "the folder's first call",
-            &[1],
-            none,
-            none,
-            100,
-            Status::ReadFault,
+            LEARN,
+            "?x\n",
+            Status::Example,
             "",
-            "sparqlbye: graph: read failed\n",
+            "sparqlbye: no wanted row\n",
         ),
         (
-            "a read in mid-stream",
-            &[4],
-            none,
-            none,
-            100,
-            Status::ReadFault,
+            LEARN,
+            "?x\n<http://e/z>\n",
+            Status::Refused,
+            "uncovered ?x\n",
             "",
-            "sparqlbye: graph: read failed\n",
-        ),
-        (
-            "the first write",
-            none,
-            &[1],
-            none,
-            100,
-            Status::WriteFault,
-            "",
-            "sparqlbye: write failed\n",
-        ),
-        (
-            "ten bytes and a fault",
-            none,
-            &[2],
-            none,
-            10,
-            Status::WriteFault,
-            "SELECT DIS",
-            "sparqlbye: write failed\n",
-        ),
-        (
-            "no line can be sent",
-            &[1],
-            none,
-            &[1],
-            100,
-            Status::ReadFault,
-            "",
-            "",
-        ),
-        (
-            "ten bytes of the line, and a fault",
-            &[1],
-            none,
-            &[2],
-            10,
-            Status::ReadFault,
-            "",
-            "sparqlbye:",
         ),
     ] {
-        let mut folder = folder(
+        decides(
             &rt,
-            alloc,
-            GRAPH.as_bytes(),
-            WANTED,
-            Vec::new(alloc),
-            reads,
-            most,
+            rt.alloc(),
+            line,
+            wanted,
+            (none, none, 100),
+            status,
+            sent,
+            told,
         )?;
-        let mut out = sink(alloc, writes, most)?;
-        let mut err = sink(alloc, tells, most)?;
-        assert_eq!(rt;
-            ends(alloc, LEARN, &mut folder, &mut out, &mut err, sent, told)?,
-            (status, true, true),
-            "{name}"
-        );
     }
     Ok(())
 }
 
-#[test]
-fn each_failed_call_is_a_read_fault(rt: HostRuntime) -> Result<(), Fail> {
-    let alloc = rt.alloc();
-    // Each of two documents is opened, read and read at its end.
-    for call in 1..8 {
-        let mut folder = folder(
-            &rt,
-            alloc,
-            GRAPH.as_bytes(),
-            WANTED,
-            Vec::new(alloc),
-            &[call],
-            1000,
-        )?;
-        let mut out = sink(alloc, &[], 1000)?;
-        let mut err = sink(alloc, &[], 1000)?;
-        let (status, sent, told) = match call {
-            1..=3 => (Status::ReadFault, "", "sparqlbye: graph: read failed\n"),
-            4..=6 => (Status::ReadFault, "", "sparqlbye: wanted: read failed\n"),
-            _ => (Status::Done, QUERY, ""),
-        };
-        assert_eq!(rt;
-            ends(alloc, LEARN, &mut folder, &mut out, &mut err, sent, told)?,
-            (status, true, true),
-            "call {call}"
-        );
+// So many bytes: a text, one byte again and again, and a text.
+fn filled(alloc: Global, head: &[u8], byte: u8, tail: &[u8], len: usize) -> Result<Vec<u8>, Fail> {
+    let mut bytes = Vec::with_capacity(alloc, len)?;
+    bytes.extend_from_slice(head)?;
+    for _ in 0..len.saturating_sub(head.len()).saturating_sub(tail.len()) {
+        bytes.push(byte)?;
     }
-    Ok(())
+    bytes.extend_from_slice(tail)?;
+    Ok(bytes)
 }
 
 #[test]
-fn one_byte_past_a_limit_is_too_long(rt: HostRuntime) -> Result<(), Fail> {
+fn documents_end_at_their_limits(rt: HostRuntime) -> Result<(), Fail> {
     let alloc = rt.alloc();
-    for (line, long, told) in [
+    // The bytes of the graph and of the table, whether a call of `err` fails, and how it ends.
+    for (name, line, graph, wanted, tells, status, sent, told) in [
         (
-            "learn --graph long --wanted w",
+            "a graph at its limit",
+            CONVERT,
+            268_435_456,
+            10,
+            false,
+            Status::Done,
+            "",
+            "",
+        ),
+        (
+            "a graph past it",
+            CONVERT,
             268_435_457,
+            10,
+            false,
+            Status::Limit,
+            "",
             "sparqlbye: graph: too many bytes\n",
         ),
         (
-            "learn --graph g --wanted long",
+            "a table at its limit",
+            LEARN,
+            10,
+            67_108_864,
+            false,
+            Status::Refused,
+            "uncovered ?x\n",
+            "",
+        ),
+        (
+            "a table past it",
+            LEARN,
+            10,
             67_108_865,
+            false,
+            Status::Limit,
+            "",
             "sparqlbye: wanted: too many bytes\n",
         ),
+        (
+            "no line can be sent",
+            LEARN,
+            10,
+            67_108_865,
+            true,
+            Status::Limit,
+            "",
+            "",
+        ),
     ] {
-        let long = Vec::from_elem(alloc, b'\n', long)?;
-        let mut folder = folder(&rt, alloc, GRAPH.as_bytes(), WANTED, long, &[], 1_000_000)?;
-        let mut out = sink(alloc, &[], 1000)?;
-        let mut err = sink(alloc, &[], 1000)?;
-        assert_eq!(rt;
-            ends(alloc, line, &mut folder, &mut out, &mut err, "", told)?,
-            (Status::Limit, true, true),
-            "{line}"
-        );
+        let graph = filled(alloc, b"#", b'c', b"", graph)?;
+        let wanted = filled(alloc, b"?x\n<a:", b'b', b">\n", wanted)?;
+        let folder = folder(&rt, alloc, graph, wanted, &[], 1_000_000)?;
+        let out = sink(alloc, 1000, &[], 1000)?;
+        let fails: &[u64] = if tells { &[1] } else { &[] };
+        let err = sink(alloc, 1000, fails, 1000)?;
+        let end = ends(alloc, line, folder, out, err)?;
+        is_end(&rt, name, &end, status, sent, told);
     }
     Ok(())
 }
@@ -465,27 +486,97 @@ fn one_byte_past_a_limit_is_too_long(rt: HostRuntime) -> Result<(), Fail> {
 #[test]
 fn one_triple_past_the_limit_is_too_many(rt: HostRuntime) -> Result<(), Fail> {
     let alloc = rt.alloc();
-    let mut long = Vec::new(alloc);
+    let mut graph = Vec::new(alloc);
     for _ in 0..1_048_576 {
-        long.extend_from_slice(b"<a:a><a:a>_:a.\n")?;
+        graph.extend_from_slice(b"<a:a><a:a>_:a.\n")?;
     }
     // The fault after the last dot comes too late.
-    long.extend_from_slice(b"<a:a><a:a><a:a>.;")?;
-    let mut folder = folder(&rt, alloc, GRAPH.as_bytes(), WANTED, long, &[], 100_000_000)?;
-    let mut out = sink(alloc, &[], 1000)?;
-    let mut err = sink(alloc, &[], 1000)?;
+    graph.extend_from_slice(b"<a:a><a:a><a:a>.;")?;
+    let folder = folder(&rt, alloc, graph, Vec::new(alloc), &[], 100_000_000)?;
+    let out = sink(alloc, 1000, &[], 1000)?;
+    let err = sink(alloc, 1000, &[], 1000)?;
+    let end = ends(alloc, CONVERT, folder, out, err)?;
     let told = "sparqlbye: graph: too many triples\n";
-    assert_eq!(rt;
-        ends(
-            alloc,
-            "convert --graph long",
-            &mut folder,
-            &mut out,
-            &mut err,
-            "",
-            told
-        )?,
-        (Status::Limit, true, true)
+    is_end(
+        &rt,
+        "a triple past the limit",
+        &end,
+        Status::Limit,
+        "",
+        told,
     );
+    Ok(())
+}
+
+// The two lines of a person, in the order of bytes.
+fn push_person(alloc: Global, text: &mut String, number: usize, ordered: bool) -> Result<(), Fail> {
+    let likes = format!(in alloc;
+        "<http://e/{number:05}> <http://e/likes> <http://e/b{number:05}> .\n"
+    )?;
+    let kind = format!(in alloc; "<http://e/{number:05}> <http://e/type> <http://e/P> .\n")?;
+    if ordered {
+        text.push_str(likes.as_str())?;
+        text.push_str(kind.as_str())?;
+    } else {
+        text.push_str(kind.as_str())?;
+        text.push_str(likes.as_str())?;
+    }
+    Ok(())
+}
+
+// The line writes this.
+fn answers(
+    rt: &impl Abort,
+    alloc: Global,
+    line: &str,
+    graph: &str,
+    wanted: &str,
+    sent: &str,
+) -> Result<(), Fail> {
+    let graph = Vec::from_slice(alloc, graph.as_bytes())?;
+    let wanted = Vec::from_slice(alloc, wanted.as_bytes())?;
+    let folder = folder(rt, alloc, graph, wanted, &[], 65_536)?;
+    let out = sink(alloc, 2_000_000, &[], 65_536)?;
+    let err = sink(alloc, 1000, &[], 1000)?;
+    let end = ends(alloc, line, folder, out, err)?;
+    is_end(rt, line, &end, Status::Done, sent, "");
+    Ok(())
+}
+
+#[test]
+fn documents_of_real_size_are_answered(rt: HostRuntime) -> Result<(), Fail> {
+    let alloc = rt.alloc();
+    // Twenty thousand triples from the last one to the first, and in order.
+    let mut people = String::new(alloc);
+    let mut ordered = String::new(alloc);
+    for number in 0..10_000 {
+        push_person(alloc, &mut people, 9_999 - number, false)?;
+        push_person(alloc, &mut ordered, number, true)?;
+    }
+    let mut wanted = String::from_str(alloc, "?x\n")?;
+    for number in 0..500 {
+        wanted.push_str(format!(in alloc; "<http://e/{number:05}>\n")?.as_str())?;
+    }
+    // A literal of a hundred thousand characters, escaped and raw.
+    let mut escaped = String::from_str(alloc, "<http://e/a> <http://e/p> \"")?;
+    let mut raw = String::from_str(alloc, "<http://e/a> <http://e/p> \"")?;
+    for _ in 0..100_000 {
+        escaped.push_str("\\u00E9")?;
+        raw.push_str("\u{E9}")?;
+    }
+    escaped.push_str("\" .\n")?;
+    raw.push_str("\" .\n")?;
+    let (people, wanted) = (people.as_str(), wanted.as_str());
+    answers(&rt, alloc, CONVERT, people, wanted, ordered.as_str())?;
+    answers(
+        &rt,
+        alloc,
+        CONVERT,
+        ordered.as_str(),
+        wanted,
+        ordered.as_str(),
+    )?;
+    answers(&rt, alloc, LEARN, people, wanted, QUERY)?;
+    answers(&rt, alloc, CONVERT, escaped.as_str(), wanted, raw.as_str())?;
     Ok(())
 }

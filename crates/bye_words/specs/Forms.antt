@@ -28,6 +28,7 @@ abbrev pub IsOneOf : List Name → Setting → Type 0
 IsOneOf [] setting = ⊥
 IsOneOf (name ∷ names) setting = ((name.text ≡ setting.0) × IsOfKind name.kind setting.1) ⊎ IsOneOf names setting
 
+-- the setting is one of those that the form knows
 abbrev pub IsKnown : Form → Setting → Type 0
 IsKnown form setting = IsOneOf form.must setting ⊎ IsOneOf form.may setting
 

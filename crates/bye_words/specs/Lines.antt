@@ -13,8 +13,8 @@ use Rattle.bye_words.specs.declared.fault.Fault.{Fault}
 use Rattle.bye_words.specs.declared.fault.Fault.TheVariants as faults
 use Rattle.bye_words.specs.declared.example.Example.{Example}
 use Rattle.bye_words.specs.declared.example.Example.TheVariants as examples
-use Rattle.bye_words.specs.declared.remote.ReplyFault.{ReplyFault}
-use Rattle.bye_words.specs.declared.remote.ReplyFault.TheVariants as replies
+use Rattle.bye_words.specs.declared.reply_fault.ReplyFault.{ReplyFault}
+use Rattle.bye_words.specs.declared.reply_fault.ReplyFault.TheVariants as replies
 use Rattle.bye_words.specs.declared.remote.Remote.{Remote}
 use Rattle.bye_words.specs.declared.remote.Remote.TheVariants as remotes
 use Rattle.bye_words.specs.declared.refusal.Refusal.{Refusal}

@@ -9,6 +9,7 @@ Word = List ℕ
 abbrev pub Setting : Type 0
 Setting = Word × Word
 
+-- the two words of a setting
 abbrev pub setting_words : Setting → List Word
 setting_words setting = setting.0 ∷ setting.1 ∷ []
 

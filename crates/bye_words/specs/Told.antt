@@ -3,8 +3,8 @@ use Rattle.std.specs.Prelude.{ℕ, List, ◌++◌, codes}
 use Rattle.std.specs.Fmt.{decimal}
 use Rattle.std.specs.Str.{encode_utf8_all}
 use Rattle.bye_words.specs.Lines.{node_text}
-use Rattle.bye_words.specs.declared.told.More.{More}
-use Rattle.bye_words.specs.declared.told.More.TheVariants as more
+use Rattle.bye_words.specs.declared.more.More.{More}
+use Rattle.bye_words.specs.declared.more.More.TheVariants as more
 use Rattle.bye_words.specs.declared.told.Told.{Told}
 use Rattle.bye_words.specs.declared.line.Line.{Line}
 use Rattle.bye_words.specs.declared.piece.Piece.{Piece}
@@ -18,9 +18,11 @@ with_more text (more.Numbers n link m) = text ++ (decimal n ++ (link.now ++ deci
 with_more text (more.Word n word) = text ++ (decimal n ++ (codes ": " ++ encode_utf8_all word.now))
 with_more text (more.Node path) = text ++ (codes " at node " ++ node_text path.now)
 
+-- what a line says of what is wrong
 abbrev pub told_text : Told → List ℕ
 told_text told = with_more told.text.now told.more
 
+-- what a line says, but for its frame
 abbrev pub line_text : Line → List ℕ
 line_text line = line.head.now ++ told_text line.told
 

@@ -12,6 +12,7 @@ pub enum Count {
 }
 
 impl Count {
+    /// What a line says of it.
     pub fn text(self) -> &'static str
         ensures { result.now ≡ count_text self }
     {

@@ -11,6 +11,7 @@ pub enum Example {
 }
 
 impl Example {
+    /// What a line says of it.
     pub fn text(self) -> &'static str
         ensures { result.now ≡ example_text self }
     {

@@ -2,8 +2,9 @@ ghost use Rattle.std.specs.Prelude.{◌≡◌};
 ghost use Rattle.bye_words.specs.Lines.{fault_text};
 ghost use Rattle.bye_words.specs.Told.{told_text};
 
+use crate::more::More;
 use crate::rule::Rule;
-use crate::told::{More, Told};
+use crate::told::Told;
 use bye_terms::Text;
 
 /// Why a document is not of its form.

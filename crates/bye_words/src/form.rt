@@ -11,7 +11,7 @@ use crate::settings::Settings;
 use crate::word::is_word;
 use bye_terms::Text;
 
-/// A form of the words: a command, and pairs of a name and a value.
+/// A form of the words: a command, and the names that pairs of a name and a value may have after it.
 #[derive(Debug, Clone, Copy)]
 pub struct Form {
     pub name: FormName,

@@ -1,6 +1,8 @@
-/// What names a form of the words.
+/// The name of a form of the words.
 #[derive(Debug, Clone, Copy, PartialEq, Eq)]
 pub enum FormName {
+    /// `learn` from a graph and a table.
     Learn,
+    /// `convert` of a graph.
     Convert,
 }

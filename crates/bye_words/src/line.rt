@@ -4,9 +4,10 @@ ghost use Rattle.std.specs.Prelude.{◌≡◌};
 ghost use Rattle.bye_words.specs.Lines.{refusal_text, remote_text};
 ghost use Rattle.bye_words.specs.Told.{line_text};
 
+use crate::more::More;
 use crate::refusal::Refusal;
 use crate::remote::Remote;
-use crate::told::{More, Told};
+use crate::told::Told;
 
 /// What a line says: of what, and what is wrong there.
 #[derive(Clone, Copy)]

@@ -5,7 +5,7 @@ ghost use Rattle.std.specs.List.{flat_map};
 ghost use Rattle.bye_words.specs.Told.{line_text, piece_text};
 
 use crate::line::Line;
-use crate::told::More;
+use crate::more::More;
 use bye_terms::Text;
 
 /// A piece of a line.

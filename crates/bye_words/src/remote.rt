@@ -1,32 +1,6 @@
-ghost use Rattle.std.specs.Prelude.{◌≡◌};
-ghost use Rattle.bye_words.specs.Lines.{reply_text};
-
 use crate::count::Count;
 use crate::fault::Fault;
-
-/// Why a reply is no message.
-#[derive(Debug, Clone, Copy)]
-pub enum ReplyFault {
-    Malformed,
-    HeadTooLong,
-    BodyTooLong,
-    BadLength,
-    Cut,
-}
-
-impl ReplyFault {
-    pub fn text(self) -> &'static str
-        ensures { result.now ≡ reply_text self }
-    {
-        match self {
-            ReplyFault::Malformed => "malformed",
-            ReplyFault::HeadTooLong => "head too long",
-            ReplyFault::BodyTooLong => "body too long",
-            ReplyFault::BadLength => "bad length",
-            ReplyFault::Cut => "cut",
-        }
-    }
-}
+use crate::reply_fault::ReplyFault;
 
 /// Why the reply of a peer is no answer.
 #[derive(Debug, Drop)]

@@ -11,6 +11,7 @@ pub enum Rule {
 }
 
 impl Rule {
+    /// What a line says of it.
     pub fn text(self) -> &'static str
         ensures { result.now ≡ rule_text self }
     {

@@ -11,8 +11,6 @@ use bye_terms::Text;
 pub fn is_word(word: &Text, text: &str) -> bool
     ensures { IsTrue result ↔ (chars text.now ≡ word.now) }
 {
-    // Its clause says that the bytes are UTF-8.
-    let _bytes = text.as_bytes();
     word.as_str() == text
 }
 
