@@ -1,5 +1,5 @@
 -- The machine of escapes by number reads them, in front of any tail.
-use Rattle.std.proofs.Common.{◌≡◌, refl, ℕ, zero, suc, ◌+◌, ◌*◌, Bool, true, false, cond, nat_lt, ◌==◌, List, [], ◌∷◌, ◌++◌, Option, Some, None, ◌⊎◌, inl, inr, ⊎_elim, length, sym, ◌∙◌, ap, subst, arith}
+use Rattle.std.proofs.Common.{◌≡◌, refl, ℕ, zero, suc, ◌+◌, ◌*◌, true, cond, nat_lt, ◌==◌, List, [], ◌∷◌, ◌++◌, Some, None, ◌⊎◌, inl, inr, ⊎_elim, length, sym, ◌∙◌, ap, subst, arith}
 use Rattle.std.specs.List.{AllByRecursion}
 use Rattle.std.specs.Char.{digit_value}
 use Rattle.std.specs.Str.{all_scalars}
@@ -11,7 +11,7 @@ use Rattle.bye_lex.specs.declared.escape.Home.TheVariants.{Iri, Text}
 use Rattle.bye_lex.specs.declared.escape.EscapeAt.{EscapeAt}
 use Rattle.bye_lex.specs.declared.escape.EscapeStep.{EscapeStep}
 use Rattle.bye_lex.specs.declared.escape.EscapeStep.TheVariants.{Within, Whole}
-use Rattle.bye_lex.proofs.Branches.{when, unless, chosen, eqb_same, same_eqb, never, heads, some_same, none_some, pick_of, scalars_join, two_ways}
+use Rattle.bye_lex.proofs.Branches.{when, unless, chosen, eqb_same, same_eqb, never, heads, none_some, pick_of, scalars_join, two_ways}
 use Rattle.bye_lex.proofs.Meanings.{After, EscapeTail, EscapeLeft}
 use Rattle.bye_lex.proofs.Numbers.{opens, digits_for}
 

@@ -1,5 +1,5 @@
 -- The machine of IRIs reads IRIs.
-use Rattle.std.proofs.Common.{◌≡◌, refl, ℕ, zero, suc, ◌+◌, ◌*◌, ◌<◌, Bool, true, false, cond, nat_lt, ◌==◌, ◌&&◌, List, [], ◌∷◌, ◌++◌, Option, Some, None, option_map, ◌⊎◌, inl, inr, ⊎_elim, length, map, flat_map, sym, ◌∙◌, ap, subst, append_assoc, arith, codes, length-append}
+use Rattle.std.proofs.Common.{◌≡◌, refl, ℕ, suc, ◌<◌, Bool, true, false, cond, ◌==◌, ◌&&◌, List, [], ◌∷◌, ◌++◌, Option, Some, None, option_map, ◌⊎◌, inl, inr, ⊎_elim, length, map, flat_map, sym, ◌∙◌, ap, subst, append_assoc, arith, codes, length-append}
 use Rattle.std.specs.List.{AllByRecursion}
 use Rattle.std.proofs.lemmas.List.{append-nil}
 use Rattle.bye_terms.specs.Characters.{is_letter, is_scheme_char, is_iri_char}
@@ -16,7 +16,7 @@ use Rattle.bye_lex.specs.declared.escape.EscapeStep.TheVariants.{Within, Whole}
 use Rattle.bye_lex.specs.declared.iri.IriAt.{IriAt}
 use Rattle.bye_lex.specs.declared.iri.IriAt.TheVariants.{Start, Opened, Scheme, Body, Backslash, Escape, Done}
 use Rattle.bye_lex.specs.declared.style.Style.{Style}
-use Rattle.bye_lex.proofs.Branches.{when, unless, chosen, eqb_same, same_eqb, never, heads, some_same, none_some, snoc, and_true, pick_of, mapped}
+use Rattle.bye_lex.proofs.Branches.{when, unless, eqb_same, same_eqb, never, heads, some_same, none_some, snoc, and_true, pick_of, mapped}
 use Rattle.bye_lex.proofs.Scans.{Exact}
 use Rattle.bye_lex.proofs.EscapeExact.{IsNumbered, IsOpen, escape_forth, escape_back, begin_forth, begin_back, can_escape, begin_open, step_open, no_digits}
 use Rattle.bye_lex.proofs.IriMeaning.{Left}

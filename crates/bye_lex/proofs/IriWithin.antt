@@ -1,5 +1,5 @@
 -- An IRI within a longer text is whole at its closing bracket, and not before.
-use Rattle.std.proofs.Common.{◌≡◌, List, ℕ, [], Some, None, sym, ◌∙◌}
+use Rattle.std.proofs.Common.{◌≡◌, List, ℕ, [], Some, sym, ◌∙◌}
 use Rattle.bye_lex.specs.IriSteps.{step, final}
 use Rattle.bye_lex.specs.declared.iri.IriAt.{IriAt}
 use Rattle.bye_lex.specs.declared.iri.IriAt.TheVariants.{Start, Opened, Scheme, Body, Backslash, Escape, Done}

@@ -1,5 +1,5 @@
 -- The machine of labels of blank nodes reads them.
-use Rattle.std.proofs.Common.{◌≡◌, refl, ℕ, Bool, true, false, cond, ◌==◌, List, [], ◌∷◌, ◌++◌, Option, Some, None, ◌⊎◌, ⊎_elim, sym, ◌∙◌, ap, subst, append_assoc, codes}
+use Rattle.std.proofs.Common.{◌≡◌, refl, ℕ, true, false, cond, ◌==◌, List, [], ◌∷◌, ◌++◌, Some, None, ⊎_elim, sym, ◌∙◌, ap, subst, append_assoc, codes}
 use Rattle.std.proofs.lemmas.List.{append-nil}
 use Rattle.bye_terms.specs.Characters.{is_label_start, is_label_part}
 use Rattle.bye_terms.specs.Names.{is_label_rest, is_label}
@@ -8,7 +8,7 @@ use Rattle.bye_lex.specs.Marks.{LabelToken}
 use Rattle.bye_lex.specs.declared.label.LabelAt.{LabelAt}
 use Rattle.bye_lex.specs.declared.label.LabelAt.TheVariants.{Start, Underscore, Colon, In, Dotted}
 use Rattle.bye_lex.specs.Languages.{Viable}
-use Rattle.bye_lex.proofs.Branches.{and_true, either, eqb_same, heads, neither_way, never, no_way, none_some, one_way, or_first, or_second, pick_of, same_eqb, snoc, some_same, some_way, two_ways, unless, when}
+use Rattle.bye_lex.proofs.Branches.{and_true, either, eqb_same, heads, neither_way, no_way, none_some, or_first, or_second, pick_of, same_eqb, snoc, some_same, some_way, when}
 use Rattle.bye_lex.proofs.Scans.{Exact}
 use Rattle.bye_terms.proofs.Tests.{both_parts}
 

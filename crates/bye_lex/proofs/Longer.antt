@@ -1,5 +1,5 @@
 -- Tokens with one more character are tokens.
-use Rattle.std.proofs.Common.{◌≡◌, refl, ℕ, Bool, true, false, not, ◌==◌, ◌&&◌, ◌||◌, List, [], ◌∷◌, ◌++◌, ◌⊎◌, inl, inr, ⊎_elim, ◌∙◌, ap, append_assoc}
+use Rattle.std.proofs.Common.{◌≡◌, refl, ℕ, Bool, true, false, not, ◌==◌, ◌&&◌, List, [], ◌∷◌, ◌++◌, ⊎_elim, ◌∙◌, ap, append_assoc}
 use Rattle.std.specs.List.{list_all}
 use Rattle.bye_terms.specs.Characters.{is_letter, is_letter_or_digit, is_scheme_char, is_iri_char, is_name_part, is_label_part}
 use Rattle.bye_terms.specs.Names.{is_after_letter, is_iri, is_label_rest, is_label, is_subtags, is_tag_rest, is_tag, is_name}

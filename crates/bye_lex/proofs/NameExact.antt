@@ -1,15 +1,15 @@
 -- The machine of names of variables reads them.
-use Rattle.std.proofs.Common.{◌≡◌, refl, ℕ, Bool, true, cond, List, [], ◌∷◌, ◌++◌, Option, Some, None, sym, ◌∙◌, ap, subst, codes}
+use Rattle.std.proofs.Common.{◌≡◌, refl, ℕ, true, List, [], ◌∷◌, ◌++◌, Some, sym, ◌∙◌, ap, subst, codes}
 use Rattle.std.specs.List.{list_all}
 use Rattle.std.proofs.lemmas.List.{append-nil}
-use Rattle.bye_terms.specs.Characters.{is_name_start, is_name_part}
+use Rattle.bye_terms.specs.Characters.{is_name_part}
 use Rattle.bye_terms.specs.Names.{is_name}
 use Rattle.bye_lex.specs.NameSteps.{step, final}
 use Rattle.bye_lex.specs.Marks.{NameToken}
 use Rattle.bye_lex.specs.declared.name.NameAt.{NameAt}
 use Rattle.bye_lex.specs.declared.name.NameAt.TheVariants.{Start, In}
 use Rattle.bye_lex.specs.Languages.{Viable}
-use Rattle.bye_lex.proofs.Branches.{and_true, either, eqb_same, heads, never, none_some, one_way, or_first, or_second, pick_of, same_eqb, snoc, some_same, two_ways, unless, when}
+use Rattle.bye_lex.proofs.Branches.{and_true, none_some, pick_of, snoc, some_same, when}
 use Rattle.bye_lex.proofs.Scans.{Exact}
 use Rattle.bye_terms.proofs.Tests.{both_parts}
 

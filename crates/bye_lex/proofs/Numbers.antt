@@ -1,5 +1,5 @@
 -- Which numbers digits can still make.
-use Rattle.std.proofs.Common.{◌≡◌, refl, ℕ, zero, suc, ◌+◌, ◌*◌, ◌<◌, ◌≤◌, Bool, true, false, cond, nat_lt, ◌==◌, ◌&&◌, List, [], ◌∷◌, ◌++◌, Some, None, length, ap, arith}
+use Rattle.std.proofs.Common.{◌≡◌, refl, ℕ, zero, suc, ◌+◌, ◌*◌, ◌<◌, ◌≤◌, Bool, true, false, cond, nat_lt, ◌==◌, ◌&&◌, List, [], ◌∷◌, Some, None, length, ap, arith}
 use Rattle.bye_lex.specs.declared.escape.Home.{Home}
 use Rattle.bye_lex.specs.declared.escape.Home.TheVariants.{Iri, Text}
 use Rattle.bye_lex.specs.declared.escape.EscapeAt.{EscapeAt}

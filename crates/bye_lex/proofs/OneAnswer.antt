@@ -1,5 +1,5 @@
 -- A reader has one answer.
-use Rattle.std.proofs.Common.{◌≡◌, refl, ℕ, Bool, true, List, [], ◌∷◌, ◌++◌, Option, Ok, Err, ◌⊎◌, inl, inr, ⊎_elim, sym, ◌∙◌, ap, subst, append_assoc, arith}
+use Rattle.std.proofs.Common.{◌≡◌, refl, ℕ, true, List, [], ◌∷◌, ◌++◌, Option, Ok, Err, ◌⊎◌, inl, inr, ⊎_elim, sym, ◌∙◌, ap, subst, append_assoc, arith}
 use Rattle.std.specs.Str.{all_scalars}
 use Rattle.bye_terms.proofs.Tests.{both_parts}
 use Rattle.bye_lex.specs.Languages.{Viable, FaultAfter, NoFront}

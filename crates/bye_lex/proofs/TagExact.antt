@@ -1,5 +1,5 @@
 -- The machine of language tags reads them.
-use Rattle.std.proofs.Common.{◌≡◌, refl, ℕ, Bool, true, false, not, cond, ◌==◌, ◌&&◌, List, [], ◌∷◌, ◌++◌, Option, Some, None, ◌⊎◌, ⊎_elim, sym, ◌∙◌, ap, subst, append_assoc, codes}
+use Rattle.std.proofs.Common.{◌≡◌, refl, ℕ, Bool, true, false, cond, ◌==◌, ◌&&◌, List, [], ◌∷◌, ◌++◌, Some, None, ⊎_elim, sym, ◌∙◌, ap, subst, codes}
 use Rattle.std.proofs.lemmas.List.{append-nil}
 use Rattle.bye_terms.specs.Characters.{is_letter, is_letter_or_digit}
 use Rattle.bye_terms.specs.Names.{is_subtags, is_tag_rest, is_tag}
@@ -8,7 +8,7 @@ use Rattle.bye_lex.specs.Marks.{TagToken}
 use Rattle.bye_lex.specs.declared.tag.TagAt.{TagAt}
 use Rattle.bye_lex.specs.declared.tag.TagAt.TheVariants.{Start, Sign, Letters, Hyphen, Subtag}
 use Rattle.bye_lex.specs.Languages.{Viable}
-use Rattle.bye_lex.proofs.Branches.{and_true, either, eqb_same, heads, never, none_some, one_way, or_first, or_second, pick_of, same_eqb, snoc, some_same, two_ways, unless, when}
+use Rattle.bye_lex.proofs.Branches.{and_true, either, eqb_same, heads, none_some, or_first, or_second, pick_of, same_eqb, snoc, some_same, unless, when}
 use Rattle.bye_lex.proofs.Scans.{Exact}
 use Rattle.bye_terms.proofs.Tests.{both_parts}
 

@@ -1,5 +1,5 @@
 -- That a reader has one answer: the cases of `Reads` exclude one another, and each tells its value and its place.
-use Rattle.std.specs.Prelude.{◌≡◌, ℕ, Bool, true, List, ◌⊎◌, Result, Err}
+use Rattle.std.specs.Prelude.{◌≡◌, ℕ, true, List, ◌⊎◌, Result, Err}
 use Rattle.std.specs.Str.{all_scalars}
 use Rattle.bye_lex.specs.Answers.{Reads}
 use Rattle.bye_lex.specs.Iris.{IriToken}

@@ -1,5 +1,5 @@
 -- That what is written of a term reads back as the term.
-use Rattle.std.specs.Prelude.{◌≡◌, ◌<◌, ℕ, true, List, [], ◌∷◌, ◌++◌, Option, Some, None, ◌⊎◌, length, codes}
+use Rattle.std.specs.Prelude.{◌≡◌, ◌<◌, ℕ, List, [], ◌∷◌, ◌++◌, Option, Some, None, ◌⊎◌, length, codes}
 use Rattle.std.specs.List.{flat_map}
 use Rattle.bye_terms.specs.Literals.{LiteralValue, lang_string, xsd_string}
 use Rattle.bye_terms.specs.Valid.{IsTerm}

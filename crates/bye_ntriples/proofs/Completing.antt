@@ -7,7 +7,6 @@ use Rattle.std.proofs.lemmas.Str.{encodes-append}
 use Rattle.bye_terms.specs.Terms.{Statement}
 use Rattle.bye_terms.specs.declared.term.Term.{Term}
 use Rattle.bye_lex.specs.LabelSteps as label_steps
-use Rattle.bye_lex.specs.declared.label.LabelAt.TheVariants as labels
 use Rattle.bye_lex.proofs.Branches.{some_same, none_some, scalars_join}
 use Rattle.bye_lex.proofs.Utf8Laws.{prefix_free}
 use Rattle.bye_ntriples.specs.Answers.{triple_limit, UpToDot, MayGoOn, HasPassed}

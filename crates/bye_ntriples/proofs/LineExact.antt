@@ -2,7 +2,6 @@
 use Rattle.std.proofs.Common.{◌≡◌, refl, ℕ, Bool, true, false, cond, ◌==◌, List, ◌∷◌, Option, Some, None, ◌⊎◌, inl, inr, ⊎_elim, sym, ◌∙◌, ap, subst}
 use Rattle.bye_terms.specs.Terms.{Statement}
 use Rattle.bye_lex.specs.LabelSteps as label_steps
-use Rattle.bye_lex.specs.declared.label.LabelAt.TheVariants as labels
 use Rattle.bye_lex.proofs.Branches.{when, unless, eqb_same, some_same, none_some, pick_of}
 use Rattle.bye_ntriples.specs.Lines.{is_space, is_line_end, LineEnd}
 use Rattle.bye_ntriples.specs.LineSteps as line

@@ -1,5 +1,5 @@
 -- The states of the machine of lines that are reached: where steps lead, and that no step goes over a line's end.
-use Rattle.std.proofs.Common.{◌≡◌, refl, ℕ, Bool, true, false, cond, ◌==◌, ◌&&◌, ◌||◌, List, [], ◌∷◌, ◌++◌, Option, Some, None, option_and_then, option_map, ◌⊎◌, inl, inr, ⊎_elim, sym, ◌∙◌, ap, subst}
+use Rattle.std.proofs.Common.{◌≡◌, refl, ℕ, Bool, true, false, cond, ◌==◌, ◌||◌, List, [], ◌∷◌, ◌++◌, Option, Some, None, option_and_then, ◌⊎◌, inl, inr, ⊎_elim, sym, ◌∙◌, ap, subst}
 use Rattle.bye_terms.specs.Literals.{is_lang_string}
 use Rattle.bye_terms.specs.Terms.{Statement}
 use Rattle.bye_terms.specs.declared.term.Term.{Term}

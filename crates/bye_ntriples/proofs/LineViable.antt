@@ -1,6 +1,5 @@
 -- Each state of the machine of lines that is reached can go on.
-use Rattle.std.proofs.Common.{◌≡◌, refl, ℕ, zero, suc, ◌+◌, ◌*◌, Bool, true, false, cond, nat_lt, ◌==◌, ◌&&◌, List, [], ◌∷◌, ◌++◌, Some, None, option_and_then, ◌⊎◌, inl, inr, ⊎_elim, length, sym, ◌∙◌, ap, subst, codes, arith, length-append, drop}
-use Rattle.std.specs.Char.{digit_value}
+use Rattle.std.proofs.Common.{◌≡◌, refl, ℕ, Bool, true, false, ◌==◌, ◌&&◌, List, [], ◌∷◌, ◌++◌, Some, None, option_and_then, ◌⊎◌, inl, inr, ⊎_elim, length, sym, ◌∙◌, ap, subst, codes, arith, length-append}
 use Rattle.std.specs.Str.{all_scalars}
 use Rattle.std.proofs.lemmas.List.{append-nil}
 use Rattle.std.proofs.lemmas.Slice.Eq.{bytes_eq-Decides}

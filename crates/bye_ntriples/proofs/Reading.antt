@@ -1,5 +1,5 @@
 -- What reading a text comes to says of the document.
-use Rattle.std.proofs.Common.{◌≡◌, refl, ℕ, ◌+◌, ◌<◌, ◌≤◌, true, false, cond, ◌==◌, List, [], ◌∷◌, ◌++◌, Option, Some, None, option_map, option_and_then, option_to_list, length, ◌⊎◌, inl, inr, ⊎_elim, sym, ◌∙◌, ap, subst, append_assoc, arith, length-append}
+use Rattle.std.proofs.Common.{◌≡◌, refl, ℕ, ◌+◌, ◌<◌, ◌≤◌, true, false, ◌==◌, List, [], ◌∷◌, ◌++◌, Option, Some, None, option_map, option_and_then, option_to_list, length, ◌⊎◌, inl, inr, ⊎_elim, sym, ◌∙◌, ap, subst, append_assoc, arith, length-append}
 use Rattle.std.specs.Char.{encode_utf8, IsScalar}
 use Rattle.std.specs.Str.{encode_utf8_all, all_scalars}
 use Rattle.std.proofs.lemmas.List.{append-nil}
@@ -16,7 +16,7 @@ use Rattle.bye_lex.specs.Stopping.{StopsAt, StopsAtEnd, LeavesOver}
 use Rattle.bye_lex.specs.Utf8.{BeginsCharacter, NoCharacter, BeginsLabelPart}
 use Rattle.bye_lex.specs.declared.label.LabelAt.{LabelAt}
 use Rattle.bye_lex.specs.declared.label.LabelAt.TheVariants as labels
-use Rattle.bye_lex.proofs.Branches.{heads, some_same, none_some, scalars_join, and_true, chosen, eqb_same, pick_of, told, either_of}
+use Rattle.bye_lex.proofs.Branches.{heads, some_same, none_some, scalars_join, and_true, chosen, eqb_same, told, either_of}
 use Rattle.bye_lex.proofs.Utf8Laws.{prefix_free, begins_none, none_after}
 use Rattle.bye_ntriples.specs.Answers.{triple_limit, Passes, HasPassed, GoesOn, MayGoOn, MayBeFront, IsFault, IsGraph}
 use Rattle.bye_ntriples.specs.DocSteps.{DocAt, start, line_ended, line_moved, step, final, held, pending, count, is_over, is_over_there}

@@ -1,6 +1,5 @@
 -- Strings within a line.
-use Rattle.std.proofs.Common.{◌≡◌, refl, ℕ, zero, suc, Bool, true, false, cond, nat_lt, ◌==◌, ◌&&◌, ◌*◌, ◌+◌, List, [], ◌∷◌, ◌++◌, Option, Some, None, option_map, ◌⊎◌, inl, inr, ⊎_elim, sym, ◌∙◌, ap, subst}
-use Rattle.std.specs.Char.{digit_value}
+use Rattle.std.proofs.Common.{◌≡◌, refl, ℕ, Bool, true, false, cond, ◌==◌, ◌&&◌, List, [], ◌∷◌, ◌++◌, Option, Some, None, option_map, ◌⊎◌, inl, inr, ⊎_elim, sym, ◌∙◌, ap, subst}
 use Rattle.bye_lex.specs.EscapeSteps as escape
 use Rattle.bye_lex.specs.StringSteps as string
 use Rattle.bye_lex.specs.declared.escape.Home.TheVariants as homes

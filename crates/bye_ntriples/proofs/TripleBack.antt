@@ -1,10 +1,9 @@
 -- From the next state of a triple, and what it wants, to a character and what the state before it wants.
-use Rattle.std.proofs.Common.{◌≡◌, refl, ℕ, Bool, true, false, cond, ◌==◌, ◌&&◌, List, [], ◌∷◌, ◌++◌, Option, Some, None, option_map, inl, inr, ⊎_elim, drop, sym, ◌∙◌, ap, subst, append_assoc}
+use Rattle.std.proofs.Common.{◌≡◌, refl, ℕ, Bool, true, false, cond, ◌==◌, List, [], ◌∷◌, Option, Some, None, inl, inr, ⊎_elim, sym, ◌∙◌, ap, subst}
 use Rattle.bye_terms.specs.Literals.{is_lang_string}
 use Rattle.bye_terms.specs.Terms.{Statement}
 use Rattle.bye_terms.specs.declared.term.Term.{Term}
 use Rattle.bye_terms.specs.declared.term.Term.TheVariants.{Iri, Blank}
-use Rattle.bye_terms.proofs.Tests.{both_parts}
 use Rattle.bye_lex.specs.Iris.{IriToken}
 use Rattle.bye_lex.specs.Languages.{Viable}
 use Rattle.bye_lex.specs.Marks.{LabelToken, TagToken}

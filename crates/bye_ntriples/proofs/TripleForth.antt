@@ -1,8 +1,7 @@
 -- From a character of a triple, and what a state wants, to the next state and what it wants.
 use Rattle.std.proofs.lemmas.List.{append-nil}
-use Rattle.bye_terms.proofs.Tests.{both_parts}
 use Rattle.bye_lex.specs.declared.string.StringAt.{StringAt}
-use Rattle.std.proofs.Common.{option_map, append_assoc, ◌≡◌, refl, ℕ, Bool, true, false, cond, ◌==◌, ◌&&◌, ◌||◌, List, [], ◌∷◌, ◌++◌, Option, Some, None, ◌⊎◌, inl, inr, ⊎_elim, drop, sym, ◌∙◌, ap, subst}
+use Rattle.std.proofs.Common.{◌≡◌, refl, ℕ, Bool, true, false, cond, ◌==◌, ◌||◌, List, [], ◌∷◌, ◌++◌, Option, Some, None, ◌⊎◌, inl, inr, ⊎_elim, sym, ◌∙◌, ap, subst}
 use Rattle.bye_terms.specs.Terms.{Statement}
 use Rattle.bye_terms.specs.declared.term.Term.{Term}
 use Rattle.bye_terms.specs.declared.term.Term.TheVariants.{Iri, Blank}

@@ -1,5 +1,5 @@
 -- What a reader of graph documents may answer: the triples, or the first fault with its place in bytes.
-use Rattle.std.specs.Prelude.{◌≡◌, ◌<◌, ◌≤◌, ℕ, true, List, [], ◌∷◌, ◌++◌, length, Result, Ok, Err, ⊤, ◌⊎◌, codes}
+use Rattle.std.specs.Prelude.{◌≡◌, ◌≤◌, ℕ, true, List, [], ◌∷◌, ◌++◌, length, Result, Ok, Err, ⊤, ◌⊎◌, codes}
 use Rattle.std.specs.Str.{encode_utf8_all, all_scalars}
 use Rattle.bye_terms.specs.Terms.{Statement}
 use Rattle.bye_lex.specs.Languages.{Viable}

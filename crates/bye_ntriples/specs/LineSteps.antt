@@ -1,5 +1,5 @@
 -- The machine of lines.
-use Rattle.std.specs.Prelude.{ℕ, Bool, cond, ◌==◌, List, [], ◌∷◌, Option, Some, None}
+use Rattle.std.specs.Prelude.{ℕ, cond, ◌==◌, List, [], ◌∷◌, Option, Some, None}
 use Rattle.bye_terms.specs.Literals.{is_lang_string}
 use Rattle.bye_terms.specs.Terms.{Statement}
 use Rattle.bye_terms.specs.declared.term.Term.{Term}
