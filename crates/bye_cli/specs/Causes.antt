@@ -75,6 +75,7 @@ IsCause files words before now _ = ⊥
 abbrev pub IsReason : Files → List Word → ℕ → ℕ → Refusal → Type 0
 IsReason files words before now refusal = IsCause files words before now refusal ⊎ ((refusal ≡ refusals.WriteFault) × IsSomeCommand words)
 
+-- what an outcome says of its cause: nothing where there is an answer
 abbrev pub IsFailure : Files → List Word → ℕ → ℕ → Outcome → Type 0
 IsFailure files words before now (Ok ending) = ⊤
 IsFailure files words before now (Err refusal) = IsReason files words before now refusal

@@ -82,6 +82,7 @@ pub data Verdict : Type 0 where
   Faulty : Fault → Verdict
   Good : Value → Verdict
 
+-- the verdict holds of the bytes of a document that is read so
 abbrev pub IsVerdict : Role → List ℕ → Verdict → Type 0
 IsVerdict role bytes (TooMany count) = HasTooMany role bytes count
 IsVerdict role bytes (Faulty fault) = (length bytes ≤ limit_of role) × Fails role bytes fault

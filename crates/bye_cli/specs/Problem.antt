@@ -40,6 +40,7 @@ pub record IsQueryText (graph : List Statement) (wanted : TableValue) (text : Li
 abbrev pub uncovered_line : Name → List ℕ
 uncovered_line x = codes "uncovered ?" ++ x ++ codes "\n"
 
+-- the line of a variable that no query of the class has
 pub record IsRefusalLine (graph : List Statement) (wanted : TableValue) (text : List ℕ) : Type 0 where
   pub variable : Name
   pub refused : IsJustRefused graph wanted variable
@@ -52,6 +53,7 @@ pub record IsLearnedText (files : Files) (words : List Word) (text : List ℕ) :
   pub asked : IsAsked files words graph wanted
   pub query : IsQueryText graph wanted text
 
+-- what is written where the words and the files ask for a query, and none of the class fits
 pub record IsRefusalText (files : Files) (words : List Word) (text : List ℕ) : Type 0 where
   pub graph : List Statement
   pub wanted : TableValue

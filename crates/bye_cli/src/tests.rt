@@ -1,3 +1,5 @@
+//! The program over folders and outputs in memory: its answers, its refusals, its limits and its real sizes.
+
 use crate::program::run_program;
 use bye_io::{MemFolder, MemSink};
 use bye_terms::{Text, push_item};

@@ -1,3 +1,5 @@
+//! Sources, sinks and folders, in memory and real: what they give and take, and where they fail.
+
 ghost use Rattle.std.specs.Prelude.{◌≤◌};
 
 use crate::{

@@ -37,6 +37,7 @@ pub record IsCut {V : Type 0} (L : List ℕ → V → Type 0) (text : List ℕ) 
   pub viable : Viable L text
   pub none : NoFront L text
 
+-- what a reader of the rule may answer at a place
 abbrev pub Reads : {V : Type 0} → (List ℕ → V → Type 0) → List ℕ → ℕ → Result (V × ℕ) LexErr → Type 0
 Reads L text from (Ok r) = IsFound L text from r.0 r.1
 Reads L text from (Err (NoToken place)) = IsFault L text from place

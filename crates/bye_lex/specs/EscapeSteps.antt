@@ -39,6 +39,7 @@ abbrev pub after_digit : Home → ℕ → ℕ → Option EscapeStep
 after_digit home zero n = cond (may_be home zero n) (Some (Whole n)) None
 after_digit home (suc left) n = cond (may_be home (suc left) n) (Some (Within (record { left = left; number = n }))) None
 
+-- one character more, which is a digit
 abbrev pub step : Home → EscapeAt → ℕ → Option EscapeStep
 step home e c = cond (nat_lt (digit_value c) 16) (after_digit home e.left (e.number * 16 + digit_value c)) None
 

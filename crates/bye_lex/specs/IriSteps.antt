@@ -15,6 +15,7 @@ abbrev pub after_escape : List ℕ → EscapeStep → IriAt
 after_escape text (Within e) = Escape e text
 after_escape text (Whole c) = Body (text ++ c ∷ [])
 
+-- one character more
 abbrev pub step : Style → IriAt → ℕ → Option IriAt
 step style Start c = cond (c == 60) (Some Opened) None
 step style Opened c = cond (is_letter c) (Some (Scheme (c ∷ []))) None
@@ -24,6 +25,7 @@ step style (Backslash text) c = option_map (λ e. Escape e text) (escape.begin c
 step style (Escape e text) c = option_map (after_escape text) (escape.step homes.Iri e c)
 step style (Done text) c = None
 
+-- what was read, where it is a token
 abbrev pub final : IriAt → Option (List ℕ)
 final Start = None
 final Opened = None

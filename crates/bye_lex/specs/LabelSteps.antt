@@ -4,6 +4,7 @@ use Rattle.bye_terms.specs.Characters.{is_label_start, is_label_part}
 use Rattle.bye_lex.specs.declared.label.LabelAt.{LabelAt}
 use Rattle.bye_lex.specs.declared.label.LabelAt.TheVariants.{Start, Underscore, Colon, In, Dotted}
 
+-- one character more
 abbrev pub step : LabelAt → ℕ → Option LabelAt
 step Start c = cond (c == 95) (Some Underscore) None
 step Underscore c = cond (c == 58) (Some Colon) None
@@ -15,6 +16,7 @@ step (Dotted label dots) c = cond (is_label_part c) (Some (In ((label ++ dots) +
 abbrev pub goes_on : ℕ → Bool
 goes_on c = is_label_part c || c == 46
 
+-- what was read, where it is a token
 abbrev pub final : LabelAt → Option (List ℕ)
 final Start = None
 final Underscore = None

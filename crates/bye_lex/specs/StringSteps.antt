@@ -38,6 +38,7 @@ abbrev pub after_escape : Quoting → List ℕ → EscapeStep → StringAt
 after_escape k out (Within e) = Escape k e out
 after_escape k out (Whole c) = In k (out ++ c ∷ [])
 
+-- one character more
 abbrev pub step : Style → StringAt → ℕ → Option StringAt
 step style Start c = cond (c == 34) (Some (opened style Double)) (cond (c == 39 && has_quoting style (Short Single)) (Some (opened style Single)) None)
 step style (Opened q) c = cond (c == mark_of q) (Some (Empty q)) (inside style (Short q) [] c)
@@ -50,6 +51,7 @@ step style (OneQuote q out) c = cond (c == mark_of q) (Some (TwoQuotes q out)) (
 step style (TwoQuotes q out) c = cond (c == mark_of q) (Some (Done out)) (inside style (Long q) (out ++ mark_of q ∷ mark_of q ∷ []) c)
 step style (Done out) c = None
 
+-- what was read, where it is a token
 abbrev pub final : StringAt → Option (List ℕ)
 final Start = None
 final (Opened q) = None

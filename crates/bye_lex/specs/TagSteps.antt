@@ -4,6 +4,7 @@ use Rattle.bye_terms.specs.Characters.{is_letter, is_letter_or_digit}
 use Rattle.bye_lex.specs.declared.tag.TagAt.{TagAt}
 use Rattle.bye_lex.specs.declared.tag.TagAt.TheVariants.{Start, Sign, Letters, Hyphen, Subtag}
 
+-- one character more
 abbrev pub step : TagAt → ℕ → Option TagAt
 step Start c = cond (c == 64) (Some Sign) None
 step Sign c = cond (is_letter c) (Some (Letters (c ∷ []))) None
@@ -11,6 +12,7 @@ step (Letters tag) c = cond (is_letter c) (Some (Letters (tag ++ c ∷ []))) (co
 step (Hyphen tag) c = cond (is_letter_or_digit c) (Some (Subtag ((tag ++ 45 ∷ []) ++ c ∷ []))) None
 step (Subtag tag) c = cond (is_letter_or_digit c) (Some (Subtag (tag ++ c ∷ []))) (cond (c == 45) (Some (Hyphen tag)) None)
 
+-- what was read, where it is a token
 abbrev pub final : TagAt → Option (List ℕ)
 final Start = None
 final Sign = None

@@ -59,9 +59,11 @@ Passes bytes = PassesWhere GoesOn bytes
 abbrev pub HasPassed : List ℕ → Type 0
 HasPassed bytes = PassesWhere MayGoOn bytes
 
+-- the characters stop being the front of a document at this place, or the text ends there and is none; before a triple too many
 abbrev pub IsSyntax : List ℕ → ℕ → Type 0
 IsSyntax bytes place = (StopsAt NtText bytes place ⊎ StopsAtEnd NtText bytes place) × (Passes bytes → ⊥)
 
+-- what stands at this place is no character; before a triple too many
 abbrev pub IsNotUtf8 : List ℕ → ℕ → Type 0
 IsNotUtf8 bytes place = LeavesOver NtText bytes place × (Passes bytes → ⊥)
 

@@ -33,6 +33,7 @@ pub record HasCome (bytes : List ℕ) (reading : ReadingAt) : Type 0 where
 abbrev pub Refuses : List ℕ → NtErr → Type 0
 Refuses bytes fault = (more : List ℕ) → IsFault (bytes ++ more) fault × (MayBeFront (bytes ++ more) → ⊥)
 
+-- such a refusal, or that memory was refused
 abbrev pub IsRefusal : List ℕ → NtErr → Type 0
 IsRefusal bytes (faults.Syntax place) = Refuses bytes (faults.Syntax place)
 IsRefusal bytes (faults.NotUtf8 place) = Refuses bytes (faults.NotUtf8 place)

@@ -37,8 +37,8 @@ fn push_slot(alloc: Global, out: &mut Text, slot: &Slot) -> Result<(), Memory>
     }
 }
 
-#[tactic(auto, unfolding(crate::specs::Printed::root_line))]
 /// Puts the line of a triple pattern within the outermost group at the end.
+#[tactic(auto, unfolding(crate::specs::Printed::root_line))]
 pub fn push_line(alloc: Global, out: &mut Text, pattern: &TriplePattern) -> Result<(), Memory>
     ensures { OnOk result (out.new ≡ out.old ++ spec.root_line pattern.now) }
 {
@@ -76,8 +76,8 @@ fn push_names(out: &mut Text, vars: &[Var]) -> Result<(), Memory>
     Ok(())
 }
 
-#[tactic(auto, unfolding(crate::specs::Printed::root_line))]
 /// The text of SELECT DISTINCT of these variables over these triple patterns.
+#[tactic(auto, unfolding(crate::specs::Printed::root_line))]
 pub fn write_conjunction(
     alloc: Global,
     vars: &[Var],

@@ -1,3 +1,5 @@
+//! What a call says that was refused memory, and a list that grows by an item.
+
 ghost use Rattle.std.specs.Prelude.{◌≡◌, ◌∷◌, ◌++◌, [], OnOk, OnErr};
 
 use std::alloc::{AllocError, AllocFailed};

@@ -1,3 +1,5 @@
+//! Words that are read and that are not, the kinds of values, and the line of each refusal.
+
 ghost use Rattle.std.specs.Prelude.{◌≤◌};
 
 use crate::count::Count;
