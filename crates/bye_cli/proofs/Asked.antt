@@ -4,7 +4,7 @@ use Rattle.std.specs.List.{AllByRecursion}
 use Rattle.bye_terms.specs.Terms.{Statement}
 use Rattle.bye_pattern.specs.Tables.{TableValue}
 use Rattle.bye_terms.specs.Members.{In}
-use Rattle.bye_pattern.specs.Mappings.{Name, Pairs, Binds, Exactly, row_mapping}
+use Rattle.bye_table.specs.Mappings.{Name, Pairs, Binds, Exactly, row_mapping}
 use Rattle.bye_pattern.proofs.RowMappings.{rows_bind}
 use Rattle.bye_words.specs.Pairs.{Word}
 use Rattle.bye_cli.specs.Words.{Learn, Convert, IsSomeCommand}

@@ -1,7 +1,7 @@
 -- Where a folder tells its files, the words and the files leave one way to end.
 use Rattle.std.proofs.Common.{◌≡◌, refl, ℕ, ◌<◌, List, [], ◌∷◌, length, Option, Some, None, inl, inr, sym, ◌∙◌, ap, subst, arith}
 use Rattle.bye_terms.specs.Terms.{Statement}
-use Rattle.bye_pattern.specs.Mappings.{Pairs}
+use Rattle.bye_table.specs.Mappings.{Pairs}
 use Rattle.bye_pattern.specs.Tables.{TableValue}
 use Rattle.bye_words.specs.Pairs.{Word}
 use Rattle.bye_cli.specs.Words.{Command, Learn, Convert, IsCommand, IsSomeCommand}

@@ -2,7 +2,7 @@
 use Rattle.std.specs.Prelude.{◌≡◌, ℕ, ◌<◌, List, ◌++◌, ◌⊎◌, length, codes}
 use Rattle.std.specs.List.{AllByRecursion}
 use Rattle.bye_terms.specs.Terms.{Statement, IsTriple}
-use Rattle.bye_pattern.specs.Mappings.{Name}
+use Rattle.bye_table.specs.Mappings.{Name}
 use Rattle.bye_pattern.specs.Trees.{Select}
 use Rattle.bye_pattern.specs.Printed.{query_text}
 use Rattle.bye_pattern.specs.Tables.{TableValue}

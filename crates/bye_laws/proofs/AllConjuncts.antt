@@ -10,11 +10,11 @@ use Rattle.bye_pattern.specs.declared.slot.Slot.{Slot}
 use Rattle.bye_pattern.specs.declared.slot.Slot.TheVariants.{Const, Var}
 use Rattle.bye_pattern.specs.Conditions.{Holds, cond_vars, same_term, same_value}
 use Rattle.bye_pattern.specs.Conjuncts.{MeetsCond}
-use Rattle.bye_pattern.specs.Domains.{IsSeen, IsWithin}
-use Rattle.bye_pattern.specs.Mappings.{Binds, Mapping, Name}
+use Rattle.bye_table.specs.Domains.{IsSeen, IsWithin}
+use Rattle.bye_table.specs.Mappings.{Binds, Mapping, Name}
 use Rattle.bye_pattern.specs.Patterns.{Meets, Pattern, slot_under, slot_vars, vars}
 use Rattle.bye_pattern.specs.Starting.{IsCommonAt, IsCommonCondAt, IsInForm}
-use Rattle.bye_pattern.proofs.Merging.{some_same}
+use Rattle.bye_table.proofs.Merging.{some_same}
 use Rattle.bye_pattern.proofs.SameTerms.{terms_same}
 use Rattle.bye_pattern.specs.declared.cond.Cond.TheVariants as conds
 

@@ -4,10 +4,10 @@ use Rattle.bye_terms.specs.Terms.{Statement}
 use Rattle.bye_pattern.specs.declared.class.Class.{Class}
 use Rattle.bye_pattern.specs.declared.class.Class.TheVariants.{And, Optional}
 use Rattle.bye_pattern.specs.Certificates.{CertificateValue, Claim, GoesWith, IsShown, Shows}
-use Rattle.bye_pattern.specs.Domains.{Wanted}
+use Rattle.bye_table.specs.Domains.{Wanted}
 use Rattle.bye_pattern.specs.Fitting.{NoFit}
 use Rattle.bye_pattern.specs.Keeping.{IsOfClass, IsRight, IsStart}
-use Rattle.bye_pattern.specs.Mappings.{Mapping}
+use Rattle.bye_table.specs.Mappings.{Mapping}
 use Rattle.bye_pattern.specs.Optional.{InOptional}
 use Rattle.bye_pattern.specs.Trees.{Select}
 use Rattle.bye_laws.specs.Completeness.{Allows, AreExamples}

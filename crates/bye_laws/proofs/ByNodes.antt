@@ -8,13 +8,13 @@ use Rattle.bye_pattern.specs.declared.cond.Cond.{Cond}
 use Rattle.bye_pattern.specs.Algebra.{IsAnswer}
 use Rattle.bye_pattern.specs.Conjuncts.{MeetsCond}
 use Rattle.bye_pattern.specs.Designed.{IsForest, IsTree}
-use Rattle.bye_pattern.specs.Domains.{AreAlike, IsSeen, IsWithin}
-use Rattle.bye_pattern.specs.Mappings.{Binds, Mapping, Name}
+use Rattle.bye_table.specs.Domains.{AreAlike, IsSeen, IsWithin}
+use Rattle.bye_table.specs.Mappings.{Binds, Mapping, Name}
 use Rattle.bye_pattern.specs.Optional.{InOptional, IsAncestor, IsNewAt, IsNode, IsNodeIn}
 use Rattle.bye_pattern.specs.Patterns.{Pattern, all_vars}
 use Rattle.bye_pattern.specs.Trees.{Forest, Select, Tree, alg, forest_vars, leaf, more, node, own_conds, own_vars, tree_vars}
 use Rattle.bye_pattern.proofs.FourRules.{at_once}
-use Rattle.bye_pattern.proofs.Merging.{in_or_not, restrict_within}
+use Rattle.bye_table.proofs.Merging.{in_or_not, restrict_within}
 use Rattle.bye_pattern.proofs.Places.{fresh, node_vars}
 use Rattle.bye_laws.specs.Nodes.{BindsNew, ByNode}
 use Rattle.bye_laws.specs.Reaching.{BindsAll, IsChild, MeetsNode, children}

@@ -2,11 +2,12 @@
 use Rattle.std.proofs.Common.{refl, List, [], inl, inr, ⊎_elim, sym, subst}
 use Rattle.bye_terms.specs.Members.{In}
 use Rattle.bye_terms.specs.Terms.{Statement}
-use Rattle.bye_pattern.specs.Domains.{AreAlike, IsSeen, IsWithin}
-use Rattle.bye_pattern.specs.Mappings.{Mapping, Name}
+use Rattle.bye_table.specs.Domains.{AreAlike, IsSeen, IsWithin}
+use Rattle.bye_table.specs.Mappings.{Mapping, Name}
 use Rattle.bye_pattern.specs.Optional.{InOptional, IsNode, IsNodeIn}
 use Rattle.bye_pattern.specs.Patterns.{Pattern, all_vars, vars}
-use Rattle.bye_pattern.specs.Starting.{Domain, IsCommonAt, IsLabel, IsLabelIn, Subdomains, also, domain, label, none}
+use Rattle.bye_table.specs.DomainTrees.{Domain, IsLabel, IsLabelIn, Subdomains, also, domain, label, none}
+use Rattle.bye_pattern.specs.Starting.{IsCommonAt}
 use Rattle.bye_pattern.specs.Trees.{Forest, Select, Tree, leaf, more, node, plain_select}
 use Rattle.bye_pattern.proofs.OneGroup.{all_vars_in, in_all_vars}
 use Rattle.bye_laws.specs.LocalPass.{AreOver, IsOver}

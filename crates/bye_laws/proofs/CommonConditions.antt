@@ -7,8 +7,8 @@ use Rattle.bye_terms.proofs.Members.{all_from, all_in}
 use Rattle.bye_pattern.specs.declared.cond.Cond.{Cond}
 use Rattle.bye_pattern.specs.Conditions.{same_term, same_value}
 use Rattle.bye_pattern.specs.Conjuncts.{MeetsCond}
-use Rattle.bye_pattern.specs.Domains.{IsWithin}
-use Rattle.bye_pattern.specs.Mappings.{Binds, Mapping, Name}
+use Rattle.bye_table.specs.Domains.{IsWithin}
+use Rattle.bye_table.specs.Mappings.{Binds, Mapping, Name}
 use Rattle.bye_pattern.specs.Patterns.{Meets, Pattern, vars}
 use Rattle.bye_pattern.specs.Starting.{IsCommonAt, IsCommonCondAt, IsInForm}
 use Rattle.bye_pattern.proofs.SameTerms.{same_self, terms_same}

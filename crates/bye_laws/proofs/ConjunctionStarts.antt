@@ -11,15 +11,16 @@ use Rattle.bye_pattern.specs.Certificates.{Admitted, CertificateValue, Claim, Do
 use Rattle.bye_pattern.specs.Classes.{InAnd, IsClassCond, IsClassTriple}
 use Rattle.bye_pattern.specs.Conjuncts.{MeetsCond}
 use Rattle.bye_pattern.specs.Designed.{IsSafe}
-use Rattle.bye_pattern.specs.Domains.{BindsEach, IsRowAt, IsSeen, IsWithin, Wanted}
+use Rattle.bye_table.specs.Domains.{BindsEach, IsRowAt, IsSeen, IsWithin, Wanted}
 use Rattle.bye_pattern.specs.Fitting.{Fits, NoFit}
 use Rattle.bye_pattern.specs.Keeping.{HasDomains, IsRight, IsStart}
 use Rattle.bye_pattern.specs.Laws.{MeetsAll}
-use Rattle.bye_pattern.specs.Mappings.{Binds, Exactly, Mapping, Name}
+use Rattle.bye_table.specs.Mappings.{Binds, Exactly, Mapping, Name}
 use Rattle.bye_pattern.specs.Patterns.{Meets, Pattern, all_vars}
-use Rattle.bye_pattern.specs.Starting.{Domain, IsCommonAt, IsCommonCondAt, IsDomainTree, IsStartNode, IsStartTree, domain, none}
+use Rattle.bye_table.specs.DomainTrees.{Domain, IsDomainTree, domain, none}
+use Rattle.bye_pattern.specs.Starting.{IsCommonAt, IsCommonCondAt, IsStartNode, IsStartTree}
 use Rattle.bye_pattern.specs.Trees.{Select, Tree, alg, leaf, more, node, own_conds, own_triples, plain_select}
-use Rattle.bye_pattern.proofs.Merging.{bound, in_or_not, not_bound, some_or_none}
+use Rattle.bye_table.proofs.Merging.{bound, in_or_not, not_bound, some_or_none}
 use Rattle.bye_pattern.proofs.OneGroup.{all_vars_in, in_all_vars, meets_answer, meets_fits}
 use Rattle.bye_laws.specs.Completeness.{AreExamples}
 use Rattle.bye_laws.proofs.AllConjuncts.{AreAllAt, some_lists}

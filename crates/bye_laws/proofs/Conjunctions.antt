@@ -12,10 +12,10 @@ use Rattle.bye_pattern.specs.Algebra.{IsAnswer}
 use Rattle.bye_pattern.specs.Classes.{HasNoChild, InAnd, IsClassCond, IsClassTriple}
 use Rattle.bye_pattern.specs.Conjuncts.{MeetsCond}
 use Rattle.bye_pattern.specs.Designed.{IsSafe, IsWellDesigned}
-use Rattle.bye_pattern.specs.Domains.{IsSeen}
+use Rattle.bye_table.specs.Domains.{IsSeen}
 use Rattle.bye_pattern.specs.Keeping.{IsRight}
 use Rattle.bye_pattern.specs.Laws.{MeetsAll}
-use Rattle.bye_pattern.specs.Mappings.{Binds, Mapping, Name}
+use Rattle.bye_table.specs.Mappings.{Binds, Mapping, Name}
 use Rattle.bye_pattern.specs.Patterns.{Meets, Pattern, all_vars, vars}
 use Rattle.bye_pattern.specs.Starting.{IsCommonAt, IsCommonCondAt}
 use Rattle.bye_pattern.specs.Trees.{Forest, Select, Tree, alg, leaf, more, node, own_conds, own_triples, plain_select}

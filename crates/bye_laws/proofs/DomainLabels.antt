@@ -1,9 +1,9 @@
 -- The labels of trees of domains: which is within which.
 use Rattle.std.proofs.Common.{◌≡◌, refl, ◌⊎◌, inl, inr, ⊎_elim, sym, subst}
 use Rattle.bye_pattern.specs.Certificates.{ShowsFork}
-use Rattle.bye_pattern.specs.Domains.{IsBefore, IsBelow, IsWithin, Wanted}
-use Rattle.bye_pattern.specs.Mappings.{Name}
-use Rattle.bye_pattern.specs.Starting.{AreOrdered, Domain, IsBeside, IsDomainTree, IsLabel, IsLabelIn, IsOrdered, Subdomains, also, domain, label, none}
+use Rattle.bye_table.specs.Domains.{IsBefore, IsBelow, IsWithin, Wanted}
+use Rattle.bye_table.specs.Mappings.{Name}
+use Rattle.bye_table.specs.DomainTrees.{AreOrdered, Domain, IsBeside, IsDomainTree, IsLabel, IsLabelIn, IsOrdered, Subdomains, also, domain, label, none}
 use Rattle.bye_laws.proofs.Withins.{seen_up, within_self, within_trans}
 
 -- x is the label of a tree of the row of trees

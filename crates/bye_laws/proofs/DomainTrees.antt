@@ -5,9 +5,9 @@ use Rattle.std.proofs.lemmas.Slice.Eq.{bytes_eq-Decides}
 use Rattle.bye_terms.specs.Members.{EachOnce, In}
 use Rattle.bye_terms.proofs.Tests.{bool_cases, not_both}
 use Rattle.bye_pattern.specs.Certificates.{ShowsFork, ShowsNoRoot}
-use Rattle.bye_pattern.specs.Domains.{AreAlike, BindsEach, IsBefore, IsSeen, Wanted}
-use Rattle.bye_pattern.specs.Mappings.{Mapping, Name}
-use Rattle.bye_pattern.specs.Starting.{AreOrdered, Domain, IsDomainTree, IsFirstOfClass, IsLabel, IsLabelIn, IsOrdered, Subdomains, also, label, none}
+use Rattle.bye_table.specs.Domains.{AreAlike, BindsEach, IsBefore, IsSeen, Wanted}
+use Rattle.bye_table.specs.Mappings.{Mapping, Name}
+use Rattle.bye_table.specs.DomainTrees.{AreOrdered, Domain, IsDomainTree, IsFirstOfClass, IsLabel, IsLabelIn, IsOrdered, Subdomains, also, label, none}
 use Rattle.bye_laws.specs.Completeness.{AreExamples}
 use Rattle.bye_laws.proofs.DomainLabels.{beside_apart, label_self, label_within, no_fork}
 use Rattle.bye_laws.proofs.GrowingDomains.{IsForkless, MayCome, added, place}

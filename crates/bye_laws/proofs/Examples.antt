@@ -1,8 +1,8 @@
 -- Rows, their numbers, and the variables that they bind.
 use Rattle.std.proofs.Common.{◌≡◌, refl, ℕ, zero, suc, ◌<◌, List, [], ◌∷◌, ◌⊎◌, inl, inr, ⊎_elim, sym, ◌∙◌, ap, subst, arith}
 use Rattle.bye_terms.specs.Members.{EachOnce, In}
-use Rattle.bye_pattern.specs.Domains.{AreSeen, IsBefore, IsRowAt, IsSeen}
-use Rattle.bye_pattern.specs.Mappings.{Mapping, Name}
+use Rattle.bye_table.specs.Domains.{AreSeen, IsBefore, IsRowAt, IsSeen}
+use Rattle.bye_table.specs.Mappings.{Mapping, Name}
 use Rattle.bye_laws.proofs.Withins.{seen_or_not}
 
 -- a row with a number is a row, and a row has a number

@@ -5,7 +5,7 @@ use Rattle.bye_terms.proofs.Members.{in_right}
 use Rattle.bye_pattern.specs.Certificates.{ShowsFork}
 use Rattle.bye_pattern.specs.Designed.{IsForest, IsTree}
 use Rattle.bye_pattern.specs.Fitting.{NoFit}
-use Rattle.bye_pattern.specs.Mappings.{Mapping, Name}
+use Rattle.bye_table.specs.Mappings.{Mapping, Name}
 use Rattle.bye_pattern.specs.Optional.{InOptional, IsAncestor, IsNewAt, IsNode, IsNodeIn}
 use Rattle.bye_pattern.specs.Patterns.{all_vars}
 use Rattle.bye_pattern.specs.Trees.{Forest, Tree, leaf, more, node, tree_vars}

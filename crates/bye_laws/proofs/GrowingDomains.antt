@@ -2,9 +2,9 @@
 use Rattle.std.proofs.Common.{◌≡◌, refl, ◌⊎◌, inl, inr, ⊎_elim, subst, ◌↔◌}
 use Rattle.bye_terms.proofs.Tests.{second}
 use Rattle.bye_pattern.specs.Certificates.{ShowsFork}
-use Rattle.bye_pattern.specs.Domains.{AreAlike, IsBefore, IsBelow, IsSeen, IsWithin, Wanted}
-use Rattle.bye_pattern.specs.Mappings.{Name}
-use Rattle.bye_pattern.specs.Starting.{AreOrdered, Domain, IsBeside, IsLabel, IsLabelIn, IsOrdered, Subdomains, also, domain, label, none}
+use Rattle.bye_table.specs.Domains.{AreAlike, IsBefore, IsBelow, IsSeen, IsWithin, Wanted}
+use Rattle.bye_table.specs.Mappings.{Name}
+use Rattle.bye_table.specs.DomainTrees.{AreOrdered, Domain, IsBeside, IsLabel, IsLabelIn, IsOrdered, Subdomains, also, domain, label, none}
 use Rattle.bye_laws.proofs.DomainLabels.{IsTopIn, beside_apart, beside_before, label_self, label_within, top_label, top_over}
 use Rattle.bye_laws.proofs.Withins.{below_or_not, within_below, within_or_not, within_trans}
 

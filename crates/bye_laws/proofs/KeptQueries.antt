@@ -10,11 +10,12 @@ use Rattle.bye_pattern.specs.declared.class.Class.{Class}
 use Rattle.bye_pattern.specs.declared.class.Class.TheVariants.{And, Optional}
 use Rattle.bye_pattern.specs.declared.cond.Cond.{Cond}
 use Rattle.bye_pattern.specs.Conjuncts.{Drops}
-use Rattle.bye_pattern.specs.Domains.{IsBefore, Wanted}
+use Rattle.bye_table.specs.Domains.{IsBefore, Wanted}
 use Rattle.bye_pattern.specs.Keeping.{IsKept, IsMinimal, IsRight, IsStart, IsThinnedTree}
-use Rattle.bye_pattern.specs.Mappings.{Mapping, Name}
+use Rattle.bye_table.specs.Mappings.{Mapping, Name}
 use Rattle.bye_pattern.specs.Patterns.{Pattern}
-use Rattle.bye_pattern.specs.Starting.{AreInTrialOrder, Domain, IsStartForest, IsStartNode, IsStartTree, IsTriedBefore, Subdomains, also, domain, none}
+use Rattle.bye_table.specs.DomainTrees.{Domain, Subdomains, also, domain, none}
+use Rattle.bye_pattern.specs.Starting.{AreInTrialOrder, IsStartForest, IsStartNode, IsStartTree, IsTriedBefore}
 use Rattle.bye_pattern.specs.Trees.{Forest, Select, Tree, leaf, more, node, plain_select}
 use Rattle.bye_pattern.specs.TrialOrder.{IsInStrictOrder, trial_cmp}
 use Rattle.bye_pattern.proofs.Orders.{trial_weak}

@@ -1,9 +1,10 @@
 -- Trees of domains and of all common conjuncts, without the orders in which they stand.
 use Rattle.std.proofs.Common.{List}
 use Rattle.bye_terms.specs.Terms.{Statement}
-use Rattle.bye_pattern.specs.Domains.{AreAlike, BindsEach, IsBelow, IsSeen, IsWithin, Wanted}
-use Rattle.bye_pattern.specs.Mappings.{Mapping, Name}
-use Rattle.bye_pattern.specs.Starting.{AreOrdered, Domain, IsBeside, IsDomainTree, IsLabel, IsLabelIn, IsOrdered, IsStartForest, IsStartTree, Subdomains, also, domain, label, none}
+use Rattle.bye_table.specs.Domains.{AreAlike, BindsEach, IsBelow, IsSeen, IsWithin, Wanted}
+use Rattle.bye_table.specs.Mappings.{Mapping, Name}
+use Rattle.bye_table.specs.DomainTrees.{AreOrdered, Domain, IsBeside, IsDomainTree, IsLabel, IsLabelIn, IsOrdered, Subdomains, also, domain, label, none}
+use Rattle.bye_pattern.specs.Starting.{IsStartForest, IsStartTree}
 use Rattle.bye_pattern.specs.Trees.{Forest, Tree, leaf, more, node}
 use Rattle.bye_laws.proofs.AllConjuncts.{AreAllAt}
 use Rattle.bye_laws.proofs.DomainLabels.{beside_apart}

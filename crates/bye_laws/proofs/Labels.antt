@@ -3,11 +3,11 @@ use Rattle.std.proofs.Common.{refl, List, [], inl, inr, sym, subst, ◌↔◌}
 use Rattle.bye_terms.specs.Members.{In}
 use Rattle.bye_terms.specs.Terms.{Statement}
 use Rattle.bye_pattern.specs.declared.cond.Cond.{Cond}
-use Rattle.bye_pattern.specs.Domains.{AreAlike, IsSeen, IsWithin}
-use Rattle.bye_pattern.specs.Mappings.{Binds, Mapping, Name}
+use Rattle.bye_table.specs.Domains.{AreAlike, IsSeen, IsWithin}
+use Rattle.bye_table.specs.Mappings.{Binds, Mapping, Name}
 use Rattle.bye_pattern.specs.Optional.{IsNewAt, IsNode, IsNodeIn}
 use Rattle.bye_pattern.specs.Patterns.{Pattern, all_vars}
-use Rattle.bye_pattern.specs.Starting.{Domain, IsLabel, IsLabelIn, Subdomains, also, domain, label, none}
+use Rattle.bye_table.specs.DomainTrees.{Domain, IsLabel, IsLabelIn, Subdomains, also, domain, label, none}
 use Rattle.bye_pattern.specs.Trees.{Forest, Tree, leaf, more, node, own_vars, tree_vars}
 use Rattle.bye_laws.specs.LocalPass.{AreOver, ByDomain, ByDomains, IsOver}
 use Rattle.bye_laws.specs.Nodes.{BindsNew, ByNode}

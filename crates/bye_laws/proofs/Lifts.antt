@@ -9,11 +9,11 @@ use Rattle.bye_pattern.specs.declared.cond.Cond.{Cond}
 use Rattle.bye_pattern.specs.Classes.{IsClassCond, IsClassTriple}
 use Rattle.bye_pattern.specs.Conditions.{cond_vars}
 use Rattle.bye_pattern.specs.Conjuncts.{MeetsCond}
-use Rattle.bye_pattern.specs.Mappings.{Binds, Compatible, Mapping, Name, first_of, merge, restrict}
+use Rattle.bye_table.specs.Mappings.{Binds, Compatible, Mapping, Name, first_of, merge, restrict}
 use Rattle.bye_pattern.specs.Patterns.{Meets, Pattern, all_vars}
-use Rattle.bye_pattern.specs.Starting.{Domain, Subdomains, also, domain, none}
+use Rattle.bye_table.specs.DomainTrees.{Domain, Subdomains, also, domain, none}
 use Rattle.bye_pattern.specs.Trees.{Forest, Tree, leaf, more, node, own_conds, own_triples, own_vars}
-use Rattle.bye_pattern.proofs.Merging.{bound, merge_left, restrict_binds, restrict_some, restrict_tells, some_or_none}
+use Rattle.bye_table.proofs.Merging.{bound, merge_left, restrict_binds, restrict_some, restrict_tells, some_or_none}
 use Rattle.bye_pattern.proofs.Solutions.{all_told}
 use Rattle.bye_laws.specs.LocalPass.{AreOver, ByDomain, ByDomains, IsOver}
 use Rattle.bye_laws.specs.Reaching.{MeetsNode, NoValues}

@@ -5,8 +5,8 @@ use Rattle.std.proofs.lemmas.Slice.Eq.{bytes_eq-Decides}
 use Rattle.bye_terms.specs.declared.term.Term.{Term}
 use Rattle.bye_terms.specs.Members.{In}
 use Rattle.bye_terms.proofs.Tests.{bool_cases, not_both}
-use Rattle.bye_pattern.specs.Mappings.{Binds, Mapping, Name, Pairs, row_mapping}
-use Rattle.bye_pattern.proofs.Merging.{binds, bound, not_bound, some_or_none, unbound}
+use Rattle.bye_table.specs.Mappings.{Binds, Mapping, Name, Pairs, row_mapping}
+use Rattle.bye_table.proofs.Merging.{binds, bound, not_bound, some_or_none, unbound}
 
 -- a variable with its value, where it has one
 pair_of : Name → Option Term → Pairs → Pairs

@@ -5,11 +5,12 @@ use Rattle.bye_terms.specs.Terms.{Statement}
 use Rattle.bye_terms.proofs.Members.{all_from, all_in}
 use Rattle.bye_pattern.specs.declared.class.Class.TheVariants.{Optional}
 use Rattle.bye_pattern.specs.declared.cond.Cond.{Cond}
-use Rattle.bye_pattern.specs.Domains.{AreSelected, Wanted}
+use Rattle.bye_table.specs.Domains.{AreSelected, Wanted}
 use Rattle.bye_pattern.specs.Keeping.{IsKept, IsRight, IsThinned, IsThinnedForest, IsThinnedTree}
-use Rattle.bye_pattern.specs.Mappings.{Binds, Mapping, Name}
+use Rattle.bye_table.specs.Mappings.{Binds, Mapping, Name}
 use Rattle.bye_pattern.specs.Patterns.{Pattern, all_vars}
-use Rattle.bye_pattern.specs.Starting.{Domain, IsDomainTree, IsStartTree, Subdomains, also, domain, label, none}
+use Rattle.bye_table.specs.DomainTrees.{Domain, IsDomainTree, Subdomains, also, domain, label, none}
+use Rattle.bye_pattern.specs.Starting.{IsStartTree}
 use Rattle.bye_pattern.specs.Trees.{Forest, Tree, leaf, more, node, plain_select}
 use Rattle.bye_laws.specs.Completeness.{AreExamples}
 use Rattle.bye_laws.specs.LocalPass.{AreOver, AreThinnedHere, ByDomain, ByDomains, IsOver, IsSettled, IsThinnedHere}

@@ -10,12 +10,12 @@ use Rattle.bye_pattern.specs.declared.cond.Cond.{Cond}
 use Rattle.bye_pattern.specs.Classes.{IsClassCond, IsClassTriple}
 use Rattle.bye_pattern.specs.Conjuncts.{MeetsCond}
 use Rattle.bye_pattern.specs.Designed.{IsSafe}
-use Rattle.bye_pattern.specs.Domains.{AreAlike, IsSeen}
+use Rattle.bye_table.specs.Domains.{AreAlike, IsSeen}
 use Rattle.bye_pattern.specs.Keeping.{IsRight}
 use Rattle.bye_pattern.specs.Laws.{MeetsAll}
-use Rattle.bye_pattern.specs.Mappings.{Mapping, Name}
+use Rattle.bye_table.specs.Mappings.{Mapping, Name}
 use Rattle.bye_pattern.specs.Patterns.{Meets, Pattern, all_vars}
-use Rattle.bye_pattern.specs.Starting.{Subdomains, domain}
+use Rattle.bye_table.specs.DomainTrees.{Subdomains, domain}
 use Rattle.bye_pattern.specs.Trees.{Forest, leaf, node, plain_select}
 use Rattle.bye_pattern.proofs.OneGroup.{fits_meets, meets_fits}
 use Rattle.bye_laws.specs.LocalPass.{AreOver, ByDomain, IsSettled, IsShut}

@@ -2,9 +2,9 @@
 use Rattle.std.proofs.Common.{◌≡◌, refl, List, [], ◌∷◌, ◌⊎◌, inl, inr, ⊎_elim, sym, ap, subst, ◌↔◌}
 use Rattle.bye_terms.specs.Members.{EachOnce, In}
 use Rattle.bye_terms.proofs.Tests.{second}
-use Rattle.bye_pattern.specs.Domains.{IsBefore, IsBelow, IsWithin, Wanted}
-use Rattle.bye_pattern.specs.Mappings.{Name}
-use Rattle.bye_pattern.specs.Starting.{AreOrdered, Domain, IsDomainTree, IsLabel, IsLabelIn, Subdomains, also, domain, label, none}
+use Rattle.bye_table.specs.Domains.{IsBefore, IsBelow, IsWithin, Wanted}
+use Rattle.bye_table.specs.Mappings.{Name}
+use Rattle.bye_table.specs.DomainTrees.{AreOrdered, Domain, IsDomainTree, IsLabel, IsLabelIn, Subdomains, also, domain, label, none}
 use Rattle.bye_laws.specs.Completeness.{AreExamples}
 use Rattle.bye_laws.proofs.DomainLabels.{beside_apart, beside_before, label_self, label_within, top_label, top_over}
 use Rattle.bye_laws.proofs.DomainTrees.{before_in, one_first}

@@ -7,13 +7,13 @@ use Rattle.bye_terms.proofs.Members.{all_from, all_in, in_cases}
 use Rattle.bye_pattern.specs.declared.class.Class.TheVariants.{Optional}
 use Rattle.bye_pattern.specs.Certificates.{ShowsExtension, ShowsUncovered}
 use Rattle.bye_pattern.specs.Conjuncts.{MeetsCond}
-use Rattle.bye_pattern.specs.Domains.{IsRowAt, IsSeen, IsWithin}
+use Rattle.bye_table.specs.Domains.{IsRowAt, IsSeen, IsWithin}
 use Rattle.bye_pattern.specs.Keeping.{IsRight}
-use Rattle.bye_pattern.specs.Mappings.{Binds, Mapping, Name, first_of, merge}
+use Rattle.bye_table.specs.Mappings.{Binds, Mapping, Name, first_of, merge}
 use Rattle.bye_pattern.specs.Patterns.{Meets, all_vars, vars}
-use Rattle.bye_pattern.specs.Starting.{Domain, IsLabelIn, Subdomains, also, domain, label, none}
+use Rattle.bye_table.specs.DomainTrees.{Domain, IsLabelIn, Subdomains, also, domain, label, none}
 use Rattle.bye_pattern.specs.Trees.{Forest, Tree, leaf, more, node, plain_select}
-use Rattle.bye_pattern.proofs.Merging.{bound, merge_bound, merge_left}
+use Rattle.bye_table.proofs.Merging.{bound, merge_bound, merge_left}
 use Rattle.bye_pattern.proofs.OneGroup.{in_all_vars}
 use Rattle.bye_pattern.proofs.Solutions.{all_told}
 use Rattle.bye_laws.specs.LocalPass.{ByDomain, ByDomains}

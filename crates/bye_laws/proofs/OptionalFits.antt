@@ -8,15 +8,16 @@ use Rattle.bye_pattern.specs.declared.class.Class.TheVariants.{Optional}
 use Rattle.bye_pattern.specs.declared.cond.Cond.{Cond}
 use Rattle.bye_pattern.specs.Certificates.{ShowsExtension, ShowsNoRoot, ShowsUncovered}
 use Rattle.bye_pattern.specs.Conjuncts.{MeetsCond}
-use Rattle.bye_pattern.specs.Domains.{IsSeen, IsWithin}
+use Rattle.bye_table.specs.Domains.{IsSeen, IsWithin}
 use Rattle.bye_pattern.specs.Fitting.{NoFit}
 use Rattle.bye_pattern.specs.Keeping.{IsRight}
-use Rattle.bye_pattern.specs.Mappings.{Binds, Mapping, Name, merge}
+use Rattle.bye_table.specs.Mappings.{Binds, Mapping, Name, merge}
 use Rattle.bye_pattern.specs.Optional.{InOptional, IsNewAt, IsNode}
 use Rattle.bye_pattern.specs.Patterns.{Meets, Pattern, all_vars}
-use Rattle.bye_pattern.specs.Starting.{Domain, IsCommonAt, IsCommonCondAt, Subdomains, also, domain, label, none}
+use Rattle.bye_table.specs.DomainTrees.{Domain, Subdomains, also, domain, label, none}
+use Rattle.bye_pattern.specs.Starting.{IsCommonAt, IsCommonCondAt}
 use Rattle.bye_pattern.specs.Trees.{Forest, Select, Tree, leaf, more, node, own_conds, own_triples, own_vars, plain_select}
-use Rattle.bye_pattern.proofs.Merging.{binds}
+use Rattle.bye_table.proofs.Merging.{binds}
 use Rattle.bye_pattern.proofs.OneGroup.{in_all_vars}
 use Rattle.bye_laws.specs.LocalPass.{ByDomain, ByDomains}
 use Rattle.bye_laws.specs.Nodes.{BindsNew, ByNode}

@@ -7,14 +7,14 @@ use Rattle.bye_terms.proofs.Members.{all_from, all_in}
 use Rattle.bye_pattern.specs.declared.class.Class.TheVariants.{Optional}
 use Rattle.bye_pattern.specs.Classes.{IsClassCond, IsClassTriple}
 use Rattle.bye_pattern.specs.Conjuncts.{Drops}
-use Rattle.bye_pattern.specs.Domains.{IsSeen, IsWithin}
+use Rattle.bye_table.specs.Domains.{IsSeen, IsWithin}
 use Rattle.bye_pattern.specs.Keeping.{IsRight, IsThinnedTree}
-use Rattle.bye_pattern.specs.Mappings.{Mapping, Name}
+use Rattle.bye_table.specs.Mappings.{Mapping, Name}
 use Rattle.bye_pattern.specs.Optional.{InOptional, IsNewAt, IsNode, IsNodeIn}
 use Rattle.bye_pattern.specs.Patterns.{all_vars}
-use Rattle.bye_pattern.specs.Starting.{Domain, Subdomains, also, domain, none}
+use Rattle.bye_table.specs.DomainTrees.{Domain, Subdomains, also, domain, none}
 use Rattle.bye_pattern.specs.Trees.{Forest, Select, Tree, leaf, more, node, plain_select}
-use Rattle.bye_pattern.proofs.Merging.{in_or_not}
+use Rattle.bye_table.proofs.Merging.{in_or_not}
 use Rattle.bye_pattern.proofs.Places.{fresh}
 use Rattle.bye_laws.specs.LocalPass.{AreOver, ByDomain, IsOver}
 use Rattle.bye_laws.specs.Nodes.{ByNode}

@@ -4,12 +4,12 @@ use Rattle.bye_terms.specs.Members.{In}
 use Rattle.bye_terms.specs.Terms.{Statement}
 use Rattle.bye_pattern.specs.declared.class.Class.TheVariants.{Optional}
 use Rattle.bye_pattern.specs.Certificates.{Admitted, CertificateValue, Claim, Domains, Extension, Fork, GoesWith, IsShown, NoRoot, Shows, ShowsExtension, ShowsUncovered, Uncovered}
-use Rattle.bye_pattern.specs.Domains.{AreSelected, IsSeen, Wanted}
+use Rattle.bye_table.specs.Domains.{AreSelected, IsSeen, Wanted}
 use Rattle.bye_pattern.specs.Fitting.{NoFit}
 use Rattle.bye_pattern.specs.Keeping.{IsRight, IsStart}
-use Rattle.bye_pattern.specs.Mappings.{Mapping, Name, row_mapping}
+use Rattle.bye_table.specs.Mappings.{Mapping, Name, row_mapping}
 use Rattle.bye_pattern.specs.Optional.{InOptional}
-use Rattle.bye_pattern.specs.Starting.{Domain, IsLabel, IsLabelIn, Subdomains, also, domain, none}
+use Rattle.bye_table.specs.DomainTrees.{Domain, IsLabel, IsLabelIn, Subdomains, also, domain, none}
 use Rattle.bye_pattern.specs.Trees.{Forest, Select, Tree, leaf, more, node, plain_select}
 use Rattle.bye_laws.specs.Completeness.{AreExamples}
 use Rattle.bye_laws.proofs.AllConjuncts.{some_lists}

@@ -3,11 +3,11 @@ use Rattle.std.proofs.Common.{refl, List, [], ◌++◌, inl, inr, ⊎_elim, sym,
 use Rattle.bye_terms.specs.Members.{EachOnce, In}
 use Rattle.bye_terms.proofs.Members.{all_from, all_in, in_cases, in_left, in_right}
 use Rattle.bye_pattern.specs.Designed.{IsForest, IsTree}
-use Rattle.bye_pattern.specs.Domains.{AreAlike, IsSeen, IsWithin}
-use Rattle.bye_pattern.specs.Mappings.{Binds, Mapping, Name}
+use Rattle.bye_table.specs.Domains.{AreAlike, IsSeen, IsWithin}
+use Rattle.bye_table.specs.Mappings.{Binds, Mapping, Name}
 use Rattle.bye_pattern.specs.Optional.{InOptional, IsAncestor, IsNewAt, IsNode, IsNodeIn}
 use Rattle.bye_pattern.specs.Patterns.{all_vars}
-use Rattle.bye_pattern.specs.Starting.{Domain, IsLabel, IsLabelIn, Subdomains, also, domain, label, none}
+use Rattle.bye_table.specs.DomainTrees.{Domain, IsLabel, IsLabelIn, Subdomains, also, domain, label, none}
 use Rattle.bye_pattern.specs.Trees.{Forest, Tree, forest_vars, leaf, more, node, own_conds, own_triples, own_vars, plain_select, tree_vars}
 use Rattle.bye_pattern.proofs.FourRules.{at_once}
 use Rattle.bye_laws.specs.LocalPass.{AreOver, IsGroupOf, IsOver}

@@ -9,13 +9,13 @@ use Rattle.bye_pattern.specs.Classes.{IsClassCond, IsClassTriple}
 use Rattle.bye_pattern.specs.Conditions.{cond_vars}
 use Rattle.bye_pattern.specs.Conjuncts.{MeetsCond}
 use Rattle.bye_pattern.specs.Designed.{IsForest, IsTree}
-use Rattle.bye_pattern.specs.Domains.{IsWithin}
-use Rattle.bye_pattern.specs.Mappings.{Binds, Mapping, Name}
+use Rattle.bye_table.specs.Domains.{IsWithin}
+use Rattle.bye_table.specs.Mappings.{Binds, Mapping, Name}
 use Rattle.bye_pattern.specs.Optional.{InOptional, IsAncestor, IsNewAt, IsNode, IsNodeIn}
 use Rattle.bye_pattern.specs.Patterns.{Meets, Pattern, all_vars}
 use Rattle.bye_pattern.specs.Starting.{IsCommonAt, IsCommonCondAt}
 use Rattle.bye_pattern.specs.Trees.{Forest, Select, Tree, leaf, more, node, own_conds, own_triples, own_vars, tree_vars}
-use Rattle.bye_pattern.proofs.Merging.{in_or_not}
+use Rattle.bye_table.proofs.Merging.{in_or_not}
 use Rattle.bye_pattern.proofs.OneGroup.{all_vars_in}
 use Rattle.bye_laws.specs.Nodes.{BindsNew, ByNode}
 use Rattle.bye_laws.specs.Reaching.{IsChild, MeetsNode, children}

@@ -8,10 +8,10 @@ use Rattle.bye_terms.proofs.Members.{in_cases, in_left, in_right}
 use Rattle.bye_pattern.specs.Algebra.{Alg, Bgp, Extends, IsRow, LeftJoin}
 use Rattle.bye_pattern.specs.Conditions.{AllHold, cond_vars}
 use Rattle.bye_pattern.specs.Designed.{IsForest, IsTree}
-use Rattle.bye_pattern.specs.Mappings.{Binds, Compatible, Exactly, Mapping, Name, first_of, merge, restrict}
+use Rattle.bye_table.specs.Mappings.{Binds, Compatible, Exactly, Mapping, Name, first_of, merge, restrict}
 use Rattle.bye_pattern.specs.Patterns.{Meets, all_vars}
 use Rattle.bye_pattern.specs.Trees.{Forest, Tree, body, forest_vars, joined, leaf, more, node, own_conds, own_triples, own_vars, tree_vars}
-use Rattle.bye_pattern.proofs.Merging.{binds, bound, merge_bound, merge_left, merge_right, not_bound, restrict_binds, restrict_in, restrict_some, restrict_tells, some_or_none, some_same, unbound}
+use Rattle.bye_table.proofs.Merging.{binds, bound, merge_bound, merge_left, merge_right, not_bound, restrict_binds, restrict_in, restrict_some, restrict_tells, some_or_none, some_same, unbound}
 use Rattle.bye_pattern.proofs.Solutions.{all_told, meets_row, row_meets}
 use Rattle.bye_laws.specs.Reaching.{BindsAll, MeetsNode, NoValues}
 use Rattle.bye_laws.proofs.Telling.{all_hold, all_meet, all_meets_bind, all_met_any, all_met_told, merge_tells}

@@ -7,10 +7,10 @@ use Rattle.bye_pattern.specs.Algebra.{IsRow}
 use Rattle.bye_pattern.specs.Conditions.{AllHoldExpr, cond_expr}
 use Rattle.bye_pattern.specs.Conjuncts.{MeetsCond}
 use Rattle.bye_pattern.specs.Designed.{IsTree, IsWellDesigned}
-use Rattle.bye_pattern.specs.Mappings.{Binds, Mapping, Name}
+use Rattle.bye_table.specs.Mappings.{Binds, Mapping, Name}
 use Rattle.bye_pattern.specs.Trees.{Forest, Select, Tree, alg, leaf, more, node, own_conds, own_vars}
 use Rattle.bye_pattern.proofs.FourRules.{at_once}
-use Rattle.bye_pattern.proofs.Merging.{not_bound, some_or_none}
+use Rattle.bye_table.proofs.Merging.{not_bound, some_or_none}
 use Rattle.bye_pattern.proofs.OneGroup.{conds_hold, hold_conds}
 use Rattle.bye_laws.specs.Reaching.{BindsAll, IsChild, IsReached, IsReachedIn, MeetsNode, NoValues, Reaches, children}
 use Rattle.bye_laws.proofs.Reached.{BelowForest, BelowTree, InReached, InReachedForest, Reached, complete_tree, sound_tree}

@@ -7,12 +7,13 @@ use Rattle.bye_pattern.specs.declared.cond.Cond.{Cond}
 use Rattle.bye_pattern.specs.Certificates.{ShowsUncovered}
 use Rattle.bye_pattern.specs.Classes.{IsClassCond, IsClassTriple}
 use Rattle.bye_pattern.specs.Designed.{IsSafe}
-use Rattle.bye_pattern.specs.Domains.{AreAlike, IsSeen, IsWithin}
-use Rattle.bye_pattern.specs.Mappings.{Mapping, Name}
+use Rattle.bye_table.specs.Domains.{AreAlike, IsSeen, IsWithin}
+use Rattle.bye_table.specs.Mappings.{Mapping, Name}
 use Rattle.bye_pattern.specs.Patterns.{Pattern, all_vars}
-use Rattle.bye_pattern.specs.Starting.{Domain, IsCommonAt, IsLabel, IsLabelIn, Subdomains, also, domain, label, none}
+use Rattle.bye_table.specs.DomainTrees.{Domain, IsLabel, IsLabelIn, Subdomains, also, domain, label, none}
+use Rattle.bye_pattern.specs.Starting.{IsCommonAt}
 use Rattle.bye_pattern.specs.Trees.{Forest, Tree, leaf, more, node}
-use Rattle.bye_pattern.proofs.Merging.{in_or_not}
+use Rattle.bye_table.proofs.Merging.{in_or_not}
 use Rattle.bye_pattern.proofs.OneGroup.{all_vars_in, in_all_vars}
 use Rattle.bye_laws.specs.LocalPass.{AreOver, IsGroupOf, IsOver}
 use Rattle.bye_laws.proofs.AllConjuncts.{AreAllAt}

@@ -9,9 +9,9 @@ use Rattle.bye_terms.proofs.Members.{in_cases}
 use Rattle.bye_pattern.specs.declared.cond.Cond.{Cond}
 use Rattle.bye_pattern.specs.Conditions.{AllHold, Holds, cond_vars, same_value}
 use Rattle.bye_pattern.specs.Conjuncts.{MeetsCond}
-use Rattle.bye_pattern.specs.Mappings.{Binds, Mapping, Name, first_of, merge}
+use Rattle.bye_table.specs.Mappings.{Binds, Mapping, Name, first_of, merge}
 use Rattle.bye_pattern.specs.Patterns.{Meets, Pattern, all_vars, vars}
-use Rattle.bye_pattern.proofs.Merging.{binds, bound, merge_left, some_or_none}
+use Rattle.bye_table.proofs.Merging.{binds, bound, merge_left, some_or_none}
 use Rattle.bye_pattern.proofs.Solutions.{meets_binds}
 use Rattle.bye_pattern.specs.declared.cond.Cond.TheVariants as conds
 

@@ -2,9 +2,9 @@
 use Rattle.std.proofs.Common.{◌≡◌, refl, List, [], ◌∷◌, ◌⊎◌, inl, inr, ⊎_elim, sym, subst}
 use Rattle.bye_terms.specs.Members.{In}
 use Rattle.bye_terms.proofs.Members.{all_from, all_in}
-use Rattle.bye_pattern.specs.Domains.{AreAlike, BindsEach, IsBelow, IsSeen, IsWithin}
-use Rattle.bye_pattern.specs.Mappings.{Binds, Mapping, Name}
-use Rattle.bye_pattern.proofs.Merging.{not_bound, some_or_none}
+use Rattle.bye_table.specs.Domains.{AreAlike, BindsEach, IsBelow, IsSeen, IsWithin}
+use Rattle.bye_table.specs.Mappings.{Binds, Mapping, Name}
+use Rattle.bye_table.proofs.Merging.{not_bound, some_or_none}
 
 -- a domain is within itself
 pub within_self : (rows : List Mapping) (x : Name) → IsWithin rows x x

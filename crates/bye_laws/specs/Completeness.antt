@@ -5,11 +5,11 @@ use Rattle.bye_terms.specs.Terms.{Statement}
 use Rattle.bye_pattern.specs.declared.class.Class.{Class}
 use Rattle.bye_pattern.specs.declared.class.Class.TheVariants.{And, Optional}
 use Rattle.bye_pattern.specs.Certificates.{CertificateValue, Shows, ShowsFork, ShowsNoRoot, ShowsUncovered}
-use Rattle.bye_pattern.specs.Domains.{IsSeen, Wanted}
+use Rattle.bye_table.specs.Domains.{IsSeen, Wanted}
 use Rattle.bye_pattern.specs.Fitting.{NoFit}
 use Rattle.bye_pattern.specs.Keeping.{IsOfClass, IsRight, IsStart}
-use Rattle.bye_pattern.specs.Mappings.{Mapping, Name}
-use Rattle.bye_pattern.specs.Starting.{Domain, IsDomainTree}
+use Rattle.bye_table.specs.Mappings.{Mapping, Name}
+use Rattle.bye_table.specs.DomainTrees.{Domain, IsDomainTree}
 use Rattle.bye_pattern.specs.Trees.{Select}
 
 -- the rows bind variables of the table alone, and no variable stands twice in the table; there is a row

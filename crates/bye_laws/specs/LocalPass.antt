@@ -9,12 +9,13 @@ use Rattle.bye_pattern.specs.declared.cond.Cond.{Cond}
 use Rattle.bye_pattern.specs.Classes.{IsClassCond, IsClassTriple}
 use Rattle.bye_pattern.specs.Conjuncts.{MeetsCond}
 use Rattle.bye_pattern.specs.Designed.{IsSafe}
-use Rattle.bye_pattern.specs.Domains.{AreAlike, AreSelected, IsSeen, IsWithin, Wanted}
+use Rattle.bye_table.specs.Domains.{AreAlike, AreSelected, IsSeen, IsWithin, Wanted}
 use Rattle.bye_pattern.specs.Keeping.{IsKept, IsRight, IsThinned}
 use Rattle.bye_pattern.specs.Laws.{MeetsAll}
-use Rattle.bye_pattern.specs.Mappings.{Binds, Mapping, Name}
+use Rattle.bye_table.specs.Mappings.{Binds, Mapping, Name}
 use Rattle.bye_pattern.specs.Patterns.{Meets, Pattern, all_vars}
-use Rattle.bye_pattern.specs.Starting.{Domain, IsDomainTree, IsStartTree, Subdomains, also, domain, label, none}
+use Rattle.bye_table.specs.DomainTrees.{Domain, IsDomainTree, Subdomains, also, domain, label, none}
+use Rattle.bye_pattern.specs.Starting.{IsStartTree}
 use Rattle.bye_pattern.specs.Trees.{Forest, Tree, leaf, more, node, plain_select}
 use Rattle.bye_laws.specs.Completeness.{AreExamples}
 use Rattle.bye_laws.specs.Reaching.{NoValues}

@@ -3,7 +3,7 @@ use Rattle.std.specs.Prelude.{List, [], ◌↔◌}
 use Rattle.std.specs.List.{AllByRecursion}
 use Rattle.bye_terms.specs.Terms.{Statement}
 use Rattle.bye_pattern.specs.Algebra.{IsAnswer}
-use Rattle.bye_pattern.specs.Mappings.{Binds, Mapping, Name}
+use Rattle.bye_table.specs.Mappings.{Binds, Mapping, Name}
 use Rattle.bye_pattern.specs.Optional.{InOptional, IsNewAt, IsNode}
 use Rattle.bye_pattern.specs.Trees.{Select, Tree, alg, own_vars}
 use Rattle.bye_laws.specs.Reaching.{IsChild, MeetsNode, NoValues, children}

@@ -2,9 +2,9 @@
 use Rattle.std.specs.Prelude.{◌≡◌, List, ◌⊎◌}
 use Rattle.bye_terms.specs.Terms.{Statement}
 use Rattle.bye_pattern.specs.declared.class.Class.{Class}
-use Rattle.bye_pattern.specs.Domains.{Wanted}
+use Rattle.bye_table.specs.Domains.{Wanted}
 use Rattle.bye_pattern.specs.Keeping.{IsKept, IsMinimal, IsRight, IsStart}
-use Rattle.bye_pattern.specs.Mappings.{Mapping}
+use Rattle.bye_table.specs.Mappings.{Mapping}
 use Rattle.bye_pattern.specs.Trees.{Select}
 use Rattle.bye_laws.specs.Completeness.{Allows, AreExamples}
 

@@ -6,7 +6,7 @@ use Rattle.bye_terms.specs.Terms.{Statement}
 use Rattle.bye_pattern.specs.Algebra.{IsRow}
 use Rattle.bye_pattern.specs.Conjuncts.{MeetsCond}
 use Rattle.bye_pattern.specs.Designed.{IsWellDesigned}
-use Rattle.bye_pattern.specs.Mappings.{Binds, Compatible, Mapping, Name, merge}
+use Rattle.bye_table.specs.Mappings.{Binds, Compatible, Mapping, Name, merge}
 use Rattle.bye_pattern.specs.Patterns.{Meets}
 use Rattle.bye_pattern.specs.Trees.{Forest, Select, Tree, alg, leaf, more, node, own_conds, own_triples, own_vars}
 

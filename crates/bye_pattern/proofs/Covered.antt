@@ -6,11 +6,12 @@ use Rattle.std.proofs.lemmas.Slice.Eq.{bytes_eq-Decides}
 use Rattle.bye_terms.specs.declared.term.Term.{Term}
 use Rattle.bye_terms.specs.Terms.{Statement, IsTriple}
 use Rattle.bye_terms.specs.Members.{In, EachOnce}
-use Rattle.bye_terms.proofs.Tests.{both_parts, both, one_part, second}
+use Rattle.bye_terms.proofs.Tests.{both_parts, both, one_part, second, not_true, not_false}
+use Rattle.bye_terms.proofs.Lists.{any_in, each_of, filtered, in_any, in_filtered, in_map, map_in, of_each}
 use Rattle.bye_terms.proofs.Members.{in_cases, in_left, in_right, all_in, all_from}
 use Rattle.bye_pattern.specs.declared.slot.Slot.{Slot}
 use Rattle.bye_pattern.specs.declared.slot.Slot.TheVariants.{Var, Const}
-use Rattle.bye_pattern.specs.Mappings.{Name, Mapping, Pairs, row_mapping, NoRepeat, Exactly}
+use Rattle.bye_table.specs.Mappings.{Name, Mapping, Pairs, row_mapping, NoRepeat, Exactly}
 use Rattle.bye_pattern.specs.Patterns.{Pattern, slot_under, slot_vars, vars, Becomes, Meets}
 use Rattle.bye_pattern.specs.Candidates.{candidates}
 use Rattle.bye_pattern.specs.Meeting as test
@@ -23,61 +24,6 @@ use Rattle.bye_pattern.proofs.SameTerms.{terms_same, same_self}
 use Rattle.bye_pattern.proofs.Solutions.{meets_binds}
 use Rattle.bye_pattern.proofs.OneGroup.{common_class, common_fits, uncovered_none}
 use Rattle.bye_pattern.proofs.Standing.{candidate_meets, meets_candidate}
-
--- tests of a list's elements
-any_in : {X : Type 0} (f : X → Bool) (xs : List X) → list_any f xs ≡ true → (x : X) × In xs x × (f x ≡ true)
-any_in f [] e = cc
-any_in f (x ∷ xs) e = ⊎_elim (λ h. (x, inl refl, h)) (λ h. let w = any_in f xs h in (w.0, inr w.1, w.2)) (one_part _ _ e)
-
-in_any : {X : Type 0} (f : X → Bool) (xs : List X) (x : X) → In xs x → f x ≡ true → list_any f xs ≡ true
-in_any f [] x h e = absurd h
-in_any f (y ∷ xs) x (inl same) e = ap (λ b. b || list_any f xs) (ap f same ∙ e)
-in_any f (y ∷ xs) x (inr h) e = second (f y) _ (in_any f xs x h e)
-
-each_of : {X : Type 0} (f : X → Bool) (xs : List X) → list_all f xs ≡ true → (x : X) → In xs x → f x ≡ true
-each_of f [] e x h = absurd h
-each_of f (y ∷ xs) e x (inl same) = sym (ap f same) ∙ (both_parts _ _ e).0
-each_of f (y ∷ xs) e x (inr h) = each_of f xs (both_parts _ _ e).1 x h
-
-pub of_each : {X : Type 0} (f : X → Bool) (xs : List X) → ((x : X) → In xs x → f x ≡ true) → list_all f xs ≡ true
-of_each f [] h = refl
-of_each f (x ∷ xs) h = both _ _ (h x (inl refl)) (of_each f xs (λ y k. h y (inr k)))
-
-kept_one : {X : Type 0} (f : X → Bool) (y : X) (xs : List X) (x : X) (b : Bool) → f y ≡ b → (In (filter f xs) x → In xs x × (f x ≡ true)) → In (cond b (y ∷ filter f xs) (filter f xs)) x → In (y ∷ xs) x × (f x ≡ true)
-kept_one f y xs x true e later (inl same) = (inl same, sym (ap f same) ∙ e)
-kept_one f y xs x true e later (inr k) = (inr (later k).0, (later k).1)
-kept_one f y xs x false e later k = (inr (later k).0, (later k).1)
-
-filtered : {X : Type 0} (f : X → Bool) (xs : List X) (x : X) → In (filter f xs) x → In xs x × (f x ≡ true)
-filtered f [] x h = absurd h
-filtered f (y ∷ xs) x h = kept_one f y xs x (f y) refl (filtered f xs x) h
-
-kept_later : {X : Type 0} (b : Bool) (y : X) (xs : List X) (x : X) → In xs x → In (cond b (y ∷ xs) xs) x
-kept_later true y xs x h = inr h
-kept_later false y xs x h = h
-
-pub in_filtered : {X : Type 0} (f : X → Bool) (xs : List X) (x : X) → In xs x → f x ≡ true → In (filter f xs) x
-in_filtered f [] x h e = absurd h
-in_filtered f (y ∷ xs) x (inl same) e = subst (λ b. In (cond b (y ∷ filter f xs) (filter f xs)) x) (sym (ap f same ∙ e)) (inl same)
-in_filtered f (y ∷ xs) x (inr h) e = kept_later (f y) y (filter f xs) x (in_filtered f xs x h e)
-
-in_map : {X Y : Type 0} (f : X → Y) (xs : List X) (y : Y) → In (map f xs) y → (x : X) × In xs x × (f x ≡ y)
-in_map f [] y h = absurd h
-in_map f (x ∷ xs) y (inl e) = (x, inl refl, e)
-in_map f (x ∷ xs) y (inr h) = let w = in_map f xs y h in (w.0, inr w.1, w.2)
-
-map_in : {X Y : Type 0} (f : X → Y) (xs : List X) (x : X) → In xs x → In (map f xs) (f x)
-map_in f [] x h = absurd h
-map_in f (z ∷ xs) x (inl e) = inl (ap f e)
-map_in f (z ∷ xs) x (inr h) = inr (map_in f xs x h)
-
-not_true : (b : Bool) → not b ≡ true → b ≡ false
-not_true true e = cc
-not_true false e = refl
-
-not_false : (b : Bool) → not b ≡ false → b ≡ true
-not_false true e = refl
-not_false false e = cc
 
 -- the test of a row and a pattern
 gives_some : (o : Option Term) (t : Term) → test.gives o t ≡ true → o ≡ Some t
@@ -96,7 +42,7 @@ becomes_true m p f e =
 true_becomes : (m : Mapping) (p : Pattern) (f : Statement) → Becomes m p f → test.becomes m p f ≡ true
 true_becomes m p f h = both _ _ (both _ _ (some_gives _ _ h.s) (some_gives _ _ h.p)) (some_gives _ _ h.o)
 
-meets_true : (g : List Statement) (p : Pattern) (row : Pairs) → test.meets g p row ≡ true → Meets g (row_mapping row) p
+pub meets_true : (g : List Statement) (p : Pattern) (row : Pairs) → test.meets g p row ≡ true → Meets g (row_mapping row) p
 meets_true g p row e = let w = any_in (test.becomes (row_mapping row) p) g e in (w.0, w.1, becomes_true (row_mapping row) p w.0 w.2)
 
 pub true_meets : (g : List Statement) (p : Pattern) (row : Pairs) → Meets g (row_mapping row) p → test.meets g p row ≡ true
@@ -136,12 +82,12 @@ in_named (Var w) v (inl e) = (bytes_eq-Decides w v).1 e
 in_named (Var w) v (inr h) = absurd h
 in_named (Const c) v h = absurd h
 
-contains_in_vars : (p : Pattern) (v : Name) → contains v p ≡ true → In (vars p) v
+pub contains_in_vars : (p : Pattern) (v : Name) → contains v p ≡ true → In (vars p) v
 contains_in_vars p v e =
     ⊎_elim (λ e. ⊎_elim (λ e. in_left _ _ v (in_left _ _ v (named_in p.s v e))) (λ e. in_left _ _ v (in_right (slot_vars p.s) _ v (named_in p.p v e))) (one_part _ _ e))
     (λ e. in_right (slot_vars p.s ++ slot_vars p.p) _ v (named_in p.o v e)) (one_part _ _ e)
 
-in_vars_contains : (p : Pattern) (v : Name) → In (vars p) v → contains v p ≡ true
+pub in_vars_contains : (p : Pattern) (v : Name) → In (vars p) v → contains v p ≡ true
 in_vars_contains p v h =
     ⊎_elim (λ h. ⊎_elim (λ h. ap (λ b. b || is_named p.p v || is_named p.o v) (in_named p.s v h)) (λ h. ap (λ b. b || is_named p.o v) (second (is_named p.s v) _ (in_named p.p v h))) (in_cases (slot_vars p.s) _ v h))
     (λ h. second (is_named p.s v || is_named p.p v) _ (in_named p.o v h)) (in_cases (slot_vars p.s ++ slot_vars p.p) _ v h)

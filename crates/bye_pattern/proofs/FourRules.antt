@@ -6,12 +6,12 @@ use Rattle.bye_terms.proofs.Members.{in_cases, in_left, in_right}
 use Rattle.bye_pattern.specs.declared.cond.Cond.{Cond}
 use Rattle.bye_pattern.specs.declared.rule.Rule.{Rule}
 use Rattle.bye_pattern.specs.declared.rule.Rule.TheVariants.{NoTriples, NoNewVariable, NotWellDesigned, UnsafeCondition}
-use Rattle.bye_pattern.specs.Mappings.{Name}
+use Rattle.bye_table.specs.Mappings.{Name}
 use Rattle.bye_pattern.specs.Patterns.{Pattern, all_vars}
 use Rattle.bye_pattern.specs.Conditions.{cond_vars}
 use Rattle.bye_pattern.specs.Trees.{Tree, node, Forest, leaf, more, tree_vars}
 use Rattle.bye_pattern.specs.Designed.{IsSafe, Keeps, IsDesigned, AreDesigned, IsWellDesigned, IsFirstBroken, rules, BreaksAt, BreaksIn, IsBroken, IsGroup, IsTree, IsForest}
-use Rattle.bye_pattern.proofs.Merging.{in_or_not}
+use Rattle.bye_table.proofs.Merging.{in_or_not}
 
 -- the variables of all earlier nodes are those above and those beside, and the parent's are above
 record Earlier (parent above beside seen : List Name) : Type 0 where

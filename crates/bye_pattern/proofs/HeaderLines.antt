@@ -11,7 +11,7 @@ use Rattle.bye_terms.specs.Names.{is_name}
 use Rattle.bye_terms.specs.Reading.{◌>>=◌, after_at, until_at}
 use Rattle.bye_terms.proofs.Tests.{bool_cases, both_parts, both, second}
 use Rattle.bye_terms.proofs.Readings.{read_both, some_same, after_takes, after_again, until_takes, until_again, until_none}
-use Rattle.bye_pattern.specs.Mappings.{Name}
+use Rattle.bye_table.specs.Mappings.{Name}
 use Rattle.bye_pattern.specs.Tables.{is_header_char, is_header_name, IsHeaderName, tabbed, name_text}
 use Rattle.bye_pattern.specs.Reading.{name_of, IsAdded, IsRefused, IsHeaderLine}
 

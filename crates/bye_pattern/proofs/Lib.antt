@@ -1,7 +1,6 @@
 pub mod SameTerms
 pub mod Standing
 pub mod Orders
-pub mod Merging
 pub mod Solutions
 pub mod OneGroup
 pub mod FourRules

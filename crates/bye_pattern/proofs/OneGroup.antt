@@ -6,7 +6,7 @@ use Rattle.bye_terms.specs.Terms.{Statement}
 use Rattle.bye_terms.specs.Members.{In}
 use Rattle.bye_terms.proofs.Members.{in_cases, in_left, in_right, all_in, all_from}
 use Rattle.bye_pattern.specs.declared.cond.Cond.{Cond}
-use Rattle.bye_pattern.specs.Mappings.{Name, Mapping, Binds, Exactly}
+use Rattle.bye_table.specs.Mappings.{Name, Mapping, Binds, Exactly}
 use Rattle.bye_pattern.specs.Patterns.{Pattern, vars, all_vars, Meets}
 use Rattle.bye_pattern.specs.Conditions.{Expr, cond_expr, Holds, AllHold, AllHoldExpr}
 use Rattle.bye_pattern.specs.Algebra.{Filter, IsBgpRow, IsRow, IsAnswer}
@@ -21,7 +21,7 @@ use Rattle.bye_pattern.specs.Fitting.{Fits, NoFit}
 use Rattle.bye_pattern.specs.Common.{IsCommon, IsCovered, IsUncovered}
 use Rattle.bye_pattern.specs.Learning.{AreFull, common_query}
 use Rattle.bye_pattern.specs.Laws.{MeetsAll, AreCommon}
-use Rattle.bye_pattern.proofs.Merging.{bound, in_or_not, restrict_whole}
+use Rattle.bye_table.proofs.Merging.{bound, in_or_not, restrict_whole}
 use Rattle.bye_pattern.proofs.Solutions.{row_meets, meets_row}
 
 -- the filter of a group with plain conditions alone

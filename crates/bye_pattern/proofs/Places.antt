@@ -2,11 +2,11 @@
 use Rattle.std.proofs.Common.{◌≡◌, refl, ℕ, zero, suc, List, [], ◌∷◌, ◌++◌, inl, inr, sym, ◌∙◌, subst}
 use Rattle.bye_terms.specs.Members.{In}
 use Rattle.bye_terms.proofs.Members.{in_left, in_right}
-use Rattle.bye_pattern.specs.Mappings.{Name, Mapping, Binds}
+use Rattle.bye_table.specs.Mappings.{Name, Mapping, Binds}
 use Rattle.bye_pattern.specs.Patterns.{all_vars}
 use Rattle.bye_pattern.specs.Trees.{Tree, node, Forest, leaf, more, own_vars, tree_vars, forest_vars, Select}
 use Rattle.bye_pattern.specs.Designed.{IsTree, IsForest}
-use Rattle.bye_pattern.specs.Domains.{IsRowAt, InE, IsWithin, AreAlike}
+use Rattle.bye_table.specs.Domains.{IsRowAt, InE, IsWithin, AreAlike}
 use Rattle.bye_pattern.specs.Optional.{IsNode, IsNodeIn, IsNewAt, InOptional}
 use Rattle.bye_pattern.proofs.FourRules.{at_once}
 

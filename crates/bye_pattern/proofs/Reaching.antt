@@ -3,11 +3,11 @@ use Rattle.std.proofs.Common.{List, [], ◌++◌, inl, inr, ⊎_elim, subst}
 use Rattle.bye_terms.specs.Terms.{Statement}
 use Rattle.bye_terms.specs.Members.{In}
 use Rattle.bye_terms.proofs.Members.{in_cases, in_left, in_right}
-use Rattle.bye_pattern.specs.Mappings.{Name, Mapping, Binds}
+use Rattle.bye_table.specs.Mappings.{Name, Mapping, Binds}
 use Rattle.bye_pattern.specs.Patterns.{all_vars}
 use Rattle.bye_pattern.specs.Algebra.{Alg, Bgp, LeftJoin, IsRow, IsAnswer}
 use Rattle.bye_pattern.specs.Trees.{Tree, node, Forest, leaf, more, body, joined, tree_vars, forest_vars, own_conds, Select, alg}
-use Rattle.bye_pattern.proofs.Merging.{merge_bound, restrict_binds}
+use Rattle.bye_table.proofs.Merging.{merge_bound, restrict_binds}
 use Rattle.bye_pattern.proofs.Solutions.{row_meets}
 
 -- the rows bind variables of this list alone

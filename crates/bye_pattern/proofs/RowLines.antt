@@ -10,7 +10,7 @@ use Rattle.bye_terms.specs.Spellings.{term_text}
 use Rattle.bye_terms.specs.declared.term.Term.{Term}
 use Rattle.bye_terms.specs.declared.term.Term.TheVariants.{Iri}
 use Rattle.bye_terms.proofs.Readings.{read_both, some_same, after_takes, after_again, iri_takes, iri_again, named}
-use Rattle.bye_pattern.specs.Mappings.{Name, Pairs}
+use Rattle.bye_table.specs.Mappings.{Name, Pairs}
 use Rattle.bye_pattern.specs.Tables.{names_of, IsRowOf, IsRows, tabbed, row_text}
 use Rattle.bye_pattern.specs.Reading.{end_of, cells_at}
 

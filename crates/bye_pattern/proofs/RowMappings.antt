@@ -6,7 +6,7 @@ use Rattle.std.proofs.lemmas.Slice.Eq.{bytes_eq-Decides}
 use Rattle.bye_terms.proofs.Tests.{not_both}
 use Rattle.bye_terms.specs.Members.{In, EachOnce}
 use Rattle.bye_terms.specs.declared.term.Term.{Term}
-use Rattle.bye_pattern.specs.Mappings.{Name, Pairs, Binds, row_mapping, NoRepeat}
+use Rattle.bye_table.specs.Mappings.{Name, Pairs, Binds, row_mapping, NoRepeat}
 use Rattle.bye_pattern.specs.Tables.{TableValue, names_of, IsRowOf, IsFirstTable}
 
 not_some : IsSome {T = Term} None → ⊥

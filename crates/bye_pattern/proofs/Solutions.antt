@@ -7,10 +7,10 @@ use Rattle.bye_terms.specs.Members.{In}
 use Rattle.bye_terms.proofs.Members.{in_cases, in_left, in_right}
 use Rattle.bye_pattern.specs.declared.slot.Slot.{Slot}
 use Rattle.bye_pattern.specs.declared.slot.Slot.TheVariants.{Var, Const}
-use Rattle.bye_pattern.specs.Mappings.{Name, Mapping, Binds, Exactly, merge, Compatible, restrict}
+use Rattle.bye_table.specs.Mappings.{Name, Mapping, Binds, Exactly, merge, Compatible, restrict}
 use Rattle.bye_pattern.specs.Patterns.{Pattern, slot_under, slot_vars, vars, all_vars, Becomes, Meets}
 use Rattle.bye_pattern.specs.Algebra.{IsMatch, IsBgpRow}
-use Rattle.bye_pattern.proofs.Merging.{bound, binds, unbound, some_or_none, not_bound, nothing_bound, restrict_tells, restrict_binds, restrictions_agree, merge_left, merge_right, merge_bound}
+use Rattle.bye_table.proofs.Merging.{bound, binds, unbound, some_or_none, not_bound, nothing_bound, restrict_tells, restrict_binds, restrictions_agree, merge_left, merge_right, merge_bound}
 
 -- what one mapping tells of these variables, the other tells too
 abbrev pub Tells : Mapping → Mapping → List Name → Type 0

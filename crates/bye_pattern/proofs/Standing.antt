@@ -12,7 +12,7 @@ use Rattle.bye_terms.proofs.Tests.{bool_cases, both_parts, both, one_part, secon
 use Rattle.bye_terms.proofs.Members.{in_cases, in_left, in_right, in_flat, flat_in, all_in}
 use Rattle.bye_pattern.specs.declared.slot.Slot.{Slot}
 use Rattle.bye_pattern.specs.declared.slot.Slot.TheVariants.{Var, Const}
-use Rattle.bye_pattern.specs.Mappings.{Name, Mapping, Pairs, row_mapping, NoRepeat}
+use Rattle.bye_table.specs.Mappings.{Name, Mapping, Pairs, row_mapping, NoRepeat}
 use Rattle.bye_pattern.specs.Patterns.{Pattern, slot_under, slot_vars, vars, Becomes, Meets, IsNamed, is_place}
 use Rattle.bye_pattern.specs.Conditions.{same_term}
 use Rattle.bye_pattern.specs.Classes.{IsClassTriple}
@@ -193,7 +193,7 @@ touched_by row f q v is h =
     (in_cases (slot_vars q.s ++ slot_vars q.p) _ v h)
 
 -- a constant that is no blank node, where the triple has a subject or a predicate
-subject_place : (m : Mapping) (s : Slot) (t : Term) → IsNamed s → is_subject t ≡ true → slot_under m s ≡ Some t → is_place s ≡ true
+pub subject_place : (m : Mapping) (s : Slot) (t : Term) → IsNamed s → is_subject t ≡ true → slot_under m s ≡ Some t → is_place s ≡ true
 subject_place m (Var v) t named valid h = refl
 subject_place m (Const c) t named valid h = iri c named (ap is_subject (Some-same h) ∙ valid)
   where
@@ -202,7 +202,7 @@ subject_place m (Const c) t named valid h = iri c named (ap is_subject (Some-sam
     iri (Blank t) a b = cc
     iri (Lit t) a b = cc
 
-predicate_place : (m : Mapping) (s : Slot) (t : Term) → is_iri_term t ≡ true → slot_under m s ≡ Some t → is_place s ≡ true
+pub predicate_place : (m : Mapping) (s : Slot) (t : Term) → is_iri_term t ≡ true → slot_under m s ≡ Some t → is_place s ≡ true
 predicate_place m (Var v) t valid h = refl
 predicate_place m (Const c) t valid h = ap is_iri_term (Some-same h) ∙ valid
 

@@ -4,7 +4,7 @@ use Rattle.std.specs.Str.{chars}
 use Rattle.std.proofs.lemmas.Str.{chars-encodes}
 use Rattle.bye_terms.specs.Reading.{until_at}
 use Rattle.bye_terms.proofs.Readings.{some_same, until_takes, until_again}
-use Rattle.bye_pattern.specs.Mappings.{Name, Pairs}
+use Rattle.bye_table.specs.Mappings.{Name, Pairs}
 use Rattle.bye_pattern.specs.Tables.{TableValue, IsRows, IsTable, IsFirstTable, tabbed, name_text}
 use Rattle.bye_pattern.specs.Reading.{IsHeaderLine}
 use Rattle.bye_pattern.proofs.HeaderLines.{free_line, same_names}

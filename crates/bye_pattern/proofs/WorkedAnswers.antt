@@ -7,14 +7,14 @@ use Rattle.bye_pattern.specs.declared.slot.Slot.TheVariants.{Var, Const}
 use Rattle.bye_pattern.specs.declared.cond.Cond.TheVariants as conds
 use Rattle.bye_pattern.specs.declared.rule.Rule.{Rule}
 use Rattle.bye_pattern.specs.declared.rule.Rule.TheVariants.{NoTriples, NoNewVariable, NotWellDesigned, UnsafeCondition}
-use Rattle.bye_pattern.specs.Mappings.{Name, Mapping, Binds, row_mapping, merge, Compatible, restrict}
+use Rattle.bye_table.specs.Mappings.{Name, Mapping, Binds, row_mapping, merge, Compatible, restrict}
 use Rattle.bye_pattern.specs.Patterns.{Pattern, all_vars}
 use Rattle.bye_pattern.specs.Conditions.{same_value}
 use Rattle.bye_pattern.specs.Algebra.{IsBgpRow, IsRow, Extends, IsAnswer}
 use Rattle.bye_pattern.specs.Trees.{body, alg}
 use Rattle.bye_pattern.specs.Designed.{Keeps}
 use Rattle.bye_pattern.specs.Worked.{x, y, z, w, m, a, b, pattern, kind, mail, text, people, is_person, has_mail, mails, one_mail, OptionalAnswers, ErrorsDropRows, DesignedTrees}
-use Rattle.bye_pattern.proofs.Merging.{bound, binds, some_same as same_bound, restrict_in, restrict_within, merge_right}
+use Rattle.bye_table.proofs.Merging.{bound, binds, some_same as same_bound, restrict_in, restrict_within, merge_right}
 use Rattle.bye_pattern.proofs.Solutions.{row_meets, meets_row}
 use Rattle.bye_pattern.proofs.OneGroup.{root_rules}
 use Rattle.bye_pattern.proofs.WorkedTerms.{differ, values_differ, row_exactly, longer_agrees, longer_merges}

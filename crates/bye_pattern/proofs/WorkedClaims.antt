@@ -7,17 +7,17 @@ use Rattle.bye_terms.specs.Members.{In}
 use Rattle.bye_pattern.specs.declared.cond.Cond.{Cond}
 use Rattle.bye_pattern.specs.declared.cond.Cond.TheVariants as conds
 use Rattle.bye_pattern.specs.declared.slot.Slot.TheVariants.{Var, Const}
-use Rattle.bye_pattern.specs.Mappings.{Name, Mapping, Pairs, Binds, row_mapping, merge}
+use Rattle.bye_table.specs.Mappings.{Name, Mapping, Pairs, Binds, row_mapping, merge}
 use Rattle.bye_pattern.specs.Patterns.{Pattern, Meets, slot_under}
 use Rattle.bye_pattern.specs.Conditions.{Holds, same_term, same_value}
 use Rattle.bye_pattern.specs.Conjuncts.{MeetsCond}
 use Rattle.bye_pattern.specs.Classes.{IsClassTriple}
 use Rattle.bye_pattern.specs.Common.{IsCommonCond}
-use Rattle.bye_pattern.specs.Domains.{IsSeen, IsWithin, IsBelow, AreAlike}
+use Rattle.bye_table.specs.Domains.{IsSeen, IsWithin, IsBelow, AreAlike}
 use Rattle.bye_pattern.specs.Starting.{IsCommonAt, IsCommonCondAt}
 use Rattle.bye_pattern.specs.Worked.{x, y, z, w, m, a, b, c, person, kind, knows, text, triple, pattern, is_person, has_mail, linked, both_rows, persons, mailed, some_mails, ClaimsOfNoRoot, ClaimsOfFork, ClaimsOfUncovered, ClaimsOfAdmitted, ClaimsOfExtension}
 use Rattle.bye_pattern.specs.Candidates.{of_terms}
-use Rattle.bye_pattern.proofs.Merging.{not_bound as unbound}
+use Rattle.bye_table.proofs.Merging.{not_bound as unbound}
 use Rattle.bye_pattern.proofs.SameTerms.{terms_same}
 use Rattle.bye_pattern.proofs.WorkedTerms.{differ, terms_differ, values_differ, row_exactly, only_name, listed}
 

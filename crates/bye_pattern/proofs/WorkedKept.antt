@@ -9,7 +9,7 @@ use Rattle.bye_pattern.specs.declared.cond.Cond.TheVariants as conds
 use Rattle.bye_pattern.specs.declared.slot.Slot.{Slot}
 use Rattle.bye_pattern.specs.declared.slot.Slot.TheVariants.{Var, Const}
 use Rattle.bye_pattern.specs.declared.class.Class.TheVariants.{And}
-use Rattle.bye_pattern.specs.Mappings.{Name, Mapping, Binds, Exactly, row_mapping}
+use Rattle.bye_table.specs.Mappings.{Name, Mapping, Binds, Exactly, row_mapping}
 use Rattle.bye_pattern.specs.Patterns.{Pattern, vars, all_vars, Meets}
 use Rattle.bye_pattern.specs.Conditions.{cond_vars, Holds}
 use Rattle.bye_pattern.specs.Conjuncts.{MeetsCond}
@@ -17,8 +17,9 @@ use Rattle.bye_pattern.specs.Classes.{IsClassTriple, IsClassCond, InAnd}
 use Rattle.bye_pattern.specs.Candidates.{of_terms}
 use Rattle.bye_pattern.specs.Trees.{node, leaf, Select, plain_select}
 use Rattle.bye_pattern.specs.Designed.{IsSafe}
-use Rattle.bye_pattern.specs.Domains.{Wanted, IsSeen, IsWithin, AreAlike}
-use Rattle.bye_pattern.specs.Starting.{domain, none, IsFirstOfClass, IsDomainTree, IsCommonAt, IsCommonCondAt, IsInForm, IsStartNode}
+use Rattle.bye_table.specs.Domains.{Wanted, IsSeen, IsWithin, AreAlike}
+use Rattle.bye_table.specs.DomainTrees.{domain, none, IsFirstOfClass, IsDomainTree}
+use Rattle.bye_pattern.specs.Starting.{IsCommonAt, IsCommonCondAt, IsInForm, IsStartNode}
 use Rattle.bye_pattern.specs.Keeping.{IsRight}
 use Rattle.bye_pattern.specs.Laws.{MeetsAll}
 use Rattle.bye_pattern.specs.Worked.{x, pattern, group, ada, eve, bob, born, knows, london, known, ConditionsAreTriedFirst}

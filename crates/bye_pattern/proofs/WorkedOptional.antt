@@ -2,10 +2,10 @@
 use Rattle.std.proofs.Common.{◌≡◌, refl, List, [], ◌∷◌, ◌⊎◌, inl, inr, ⊎_elim, sym, ◌∙◌, subst, codes, ◌↔◌}
 use Rattle.bye_terms.specs.Members.{In}
 use Rattle.std.specs.List.{AllByRecursion}
-use Rattle.bye_pattern.specs.Mappings.{Name, Mapping, Binds, row_mapping}
+use Rattle.bye_table.specs.Mappings.{Name, Mapping, Binds, row_mapping}
 use Rattle.bye_pattern.specs.Classes.{IsClassTriple, IsClassCond}
 use Rattle.bye_pattern.specs.Trees.{Tree, own_triples, own_conds}
-use Rattle.bye_pattern.specs.Domains.{IsSeen, IsWithin, IsBelow, AreAlike, BindsEach}
+use Rattle.bye_table.specs.Domains.{IsSeen, IsWithin, IsBelow, AreAlike, BindsEach}
 use Rattle.bye_pattern.specs.Optional.{IsNode, IsAncestor, IsNewAt, HasClass, InOptional}
 use Rattle.bye_pattern.specs.Worked.{x, m, a, b, text, group, has_mail, mails, mail_row, WrittenTexts, OptionalClasses}
 use Rattle.bye_pattern.proofs.WorkedTerms.{differ, row_exactly, only_name}

@@ -8,7 +8,7 @@ use Rattle.bye_terms.specs.Terms.{Statement, IsTriple}
 use Rattle.bye_terms.specs.Members.{In}
 use Rattle.bye_terms.proofs.Tests.{not_both}
 use Rattle.bye_terms.proofs.Members.{all_in}
-use Rattle.bye_pattern.specs.Mappings.{Name, Pairs, Binds, Exactly, row_mapping, first_of, merge, Compatible}
+use Rattle.bye_table.specs.Mappings.{Name, Pairs, Binds, Exactly, row_mapping, first_of, merge, Compatible}
 use Rattle.bye_pattern.specs.Patterns.{Pattern, Meets}
 use Rattle.bye_pattern.specs.Conditions.{same_term}
 use Rattle.bye_pattern.specs.Classes.{IsClassTriple}
@@ -18,7 +18,8 @@ use Rattle.bye_pattern.specs.Tables.{names_of}
 use Rattle.bye_pattern.proofs.SameTerms.{same_self}
 use Rattle.bye_pattern.proofs.RowMappings.{binds}
 use Rattle.bye_pattern.proofs.Standing.{meets_candidate}
-use Rattle.bye_pattern.proofs.Covered.{of_each, in_filtered, true_meets}
+use Rattle.bye_terms.proofs.Lists.{of_each, in_filtered}
+use Rattle.bye_pattern.proofs.Covered.{true_meets}
 
 pub differ : (v w : Name) → bytes_eq v w ≡ false → v ≡ w → ⊥
 differ v w e h = not_both _ ((bytes_eq-Decides v w).1 h) e

@@ -3,7 +3,7 @@ use Rattle.std.specs.Prelude.{◌≡◌, List, [], ◌∷◌, ◌⊎◌}
 use Rattle.bye_terms.specs.Terms.{Statement}
 use Rattle.bye_terms.specs.Members.{In}
 use Rattle.bye_pattern.specs.declared.cond.Cond.{Cond}
-use Rattle.bye_pattern.specs.Mappings.{Name, Mapping, nothing, Binds, merge, Compatible, restrict}
+use Rattle.bye_table.specs.Mappings.{Name, Mapping, nothing, Binds, merge, Compatible, restrict}
 use Rattle.bye_pattern.specs.Patterns.{Pattern, vars, Becomes}
 use Rattle.bye_pattern.specs.Conditions.{Expr, AllHold, AllHoldExpr}
 

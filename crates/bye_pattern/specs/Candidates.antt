@@ -5,7 +5,7 @@ use Rattle.bye_terms.specs.declared.term.Term.{Term}
 use Rattle.bye_terms.specs.Terms.{Statement, is_blank}
 use Rattle.bye_pattern.specs.declared.slot.Slot.{Slot}
 use Rattle.bye_pattern.specs.declared.slot.Slot.TheVariants.{Var, Const}
-use Rattle.bye_pattern.specs.Mappings.{Name, Pairs}
+use Rattle.bye_table.specs.Mappings.{Name, Pairs}
 use Rattle.bye_pattern.specs.Patterns.{Pattern, is_place}
 use Rattle.bye_pattern.specs.Conditions.{same_term}
 

@@ -6,11 +6,11 @@ use Rattle.bye_terms.specs.Members.{In}
 use Rattle.bye_pattern.specs.declared.cond.Cond.{Cond}
 use Rattle.bye_pattern.specs.declared.class.Class.{Class}
 use Rattle.bye_pattern.specs.declared.class.Class.TheVariants.{And, Optional}
-use Rattle.bye_pattern.specs.Mappings.{Name, Mapping, Pairs, row_mapping, Binds, Exactly, merge}
+use Rattle.bye_table.specs.Mappings.{Name, Mapping, Pairs, row_mapping, Binds, Exactly, merge}
 use Rattle.bye_pattern.specs.Patterns.{Pattern, vars, Meets}
 use Rattle.bye_pattern.specs.Conjuncts.{MeetsCond}
 use Rattle.bye_pattern.specs.Common.{IsCommon, IsCommonCond}
-use Rattle.bye_pattern.specs.Domains.{IsRowAt, IsSeen, IsWithin, IsBelow, AreAlike, BindsEach}
+use Rattle.bye_table.specs.Domains.{IsRowAt, IsSeen, IsWithin, IsBelow, AreAlike, BindsEach}
 use Rattle.bye_pattern.specs.Starting.{IsCommonAt, IsCommonCondAt}
 
 -- what a certificate claims; row numbers begin at 1

@@ -5,7 +5,7 @@ use Rattle.bye_terms.specs.Members.{In, EachOnce}
 use Rattle.bye_pattern.specs.declared.cond.Cond.{Cond}
 use Rattle.bye_pattern.specs.declared.cond.Cond.TheVariants as conds
 use Rattle.bye_terms.specs.Terms.{is_blank}
-use Rattle.bye_pattern.specs.Mappings.{Name}
+use Rattle.bye_table.specs.Mappings.{Name}
 use Rattle.bye_pattern.specs.Patterns.{Pattern, vars, all_vars, IsNamed}
 use Rattle.bye_pattern.specs.Trees.{Tree, node, leaf, Select, own_triples, own_conds}
 use Rattle.bye_pattern.specs.Designed.{IsWellDesigned}

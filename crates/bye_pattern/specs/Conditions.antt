@@ -8,7 +8,7 @@ use Rattle.bye_pattern.specs.declared.slot.Slot.{Slot}
 use Rattle.bye_pattern.specs.declared.slot.Slot.TheVariants.{Var, Const}
 use Rattle.bye_pattern.specs.declared.cond.Cond.{Cond}
 use Rattle.bye_pattern.specs.declared.cond.Cond.TheVariants as conds
-use Rattle.bye_pattern.specs.Mappings.{Name, Mapping}
+use Rattle.bye_table.specs.Mappings.{Name, Mapping}
 use Rattle.bye_pattern.specs.Patterns.{slot_under}
 
 -- what a kind test asks for

@@ -1,7 +1,7 @@
 -- Conjuncts of a tree: each place of one triple pattern or condition at one node.
 use Rattle.std.specs.Prelude.{◌≡◌, List, [], ◌∷◌, ◌⊎◌}
 use Rattle.bye_pattern.specs.declared.cond.Cond.{Cond}
-use Rattle.bye_pattern.specs.Mappings.{Name, Mapping, Binds}
+use Rattle.bye_table.specs.Mappings.{Name, Mapping, Binds}
 use Rattle.bye_pattern.specs.Patterns.{Pattern}
 use Rattle.bye_pattern.specs.Conditions.{Holds, cond_vars}
 use Rattle.bye_pattern.specs.Trees.{Tree, node, Forest, leaf, more, Select}

@@ -2,7 +2,7 @@
 use Rattle.std.specs.Prelude.{List}
 use Rattle.std.specs.List.{AllByRecursion}
 use Rattle.bye_terms.specs.Terms.{Statement}
-use Rattle.bye_pattern.specs.Mappings.{Mapping}
+use Rattle.bye_table.specs.Mappings.{Mapping}
 use Rattle.bye_pattern.specs.Algebra.{IsAnswer}
 use Rattle.bye_pattern.specs.Trees.{Select, alg}
 

@@ -4,15 +4,16 @@ use Rattle.bye_terms.specs.Terms.{Statement}
 use Rattle.bye_pattern.specs.declared.cond.Cond.{Cond}
 use Rattle.bye_pattern.specs.declared.class.Class.{Class}
 use Rattle.bye_pattern.specs.declared.class.Class.TheVariants.{And, Optional}
-use Rattle.bye_pattern.specs.Mappings.{Name, Mapping}
+use Rattle.bye_table.specs.Mappings.{Name, Mapping}
 use Rattle.bye_pattern.specs.Patterns.{Pattern}
 use Rattle.bye_pattern.specs.Trees.{Tree, node, Forest, leaf, more, Select, plain_select}
 use Rattle.bye_pattern.specs.Conjuncts.{DropsConjunct}
 use Rattle.bye_pattern.specs.Classes.{InAnd}
 use Rattle.bye_pattern.specs.Optional.{InOptional}
 use Rattle.bye_pattern.specs.Fitting.{Fits}
-use Rattle.bye_pattern.specs.Domains.{Wanted, AreSelected}
-use Rattle.bye_pattern.specs.Starting.{Domain, domain, none, IsDomainTree, IsStartTree}
+use Rattle.bye_table.specs.Domains.{Wanted, AreSelected}
+use Rattle.bye_table.specs.DomainTrees.{Domain, domain, none, IsDomainTree}
+use Rattle.bye_pattern.specs.Starting.{IsStartTree}
 
 -- a query of the class, over the wanted rows where it is that with OPTIONAL groups
 abbrev pub IsOfClass : Class → List Mapping → Select → Type 0

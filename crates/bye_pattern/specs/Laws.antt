@@ -5,7 +5,7 @@ use Rattle.bye_terms.specs.Terms.{Statement}
 use Rattle.bye_terms.specs.Members.{In}
 use Rattle.bye_pattern.specs.declared.cond.Cond.TheVariants as conds
 use Rattle.bye_pattern.specs.declared.rule.Rule.{Rule}
-use Rattle.bye_pattern.specs.Mappings.{Name, Mapping, Binds, Exactly}
+use Rattle.bye_table.specs.Mappings.{Name, Mapping, Binds, Exactly}
 use Rattle.bye_pattern.specs.Patterns.{Pattern, all_vars, Meets}
 use Rattle.bye_pattern.specs.Conditions.{Holds}
 use Rattle.bye_pattern.specs.Algebra.{IsBgpRow, IsAnswer}
@@ -16,7 +16,7 @@ use Rattle.bye_pattern.specs.Classes.{InAnd, InAndPlain}
 use Rattle.bye_pattern.specs.Fitting.{Fits, NoFit}
 use Rattle.bye_pattern.specs.Common.{IsCommon, IsUncovered}
 use Rattle.bye_pattern.specs.Learning.{AreFull, common_query}
-use Rattle.bye_pattern.specs.Domains.{InE, IsWithin, AreAlike}
+use Rattle.bye_table.specs.Domains.{InE, IsWithin, AreAlike}
 use Rattle.bye_pattern.specs.Optional.{InOptional, IsNode, IsNewAt}
 
 -- the mapping binds exactly the selected variables, and meets each triple pattern and each condition of the one group

@@ -3,7 +3,7 @@ use Rattle.std.specs.Prelude.{◌≡◌, List, [], ◌∷◌, ◌++◌, map, ◌
 use Rattle.std.specs.List.{AllByRecursion}
 use Rattle.bye_terms.specs.Terms.{Statement}
 use Rattle.bye_terms.specs.Members.{In, EachOnce}
-use Rattle.bye_pattern.specs.Mappings.{Name, Mapping, row_mapping, Exactly}
+use Rattle.bye_table.specs.Mappings.{Name, Mapping, row_mapping, Exactly}
 use Rattle.bye_pattern.specs.Patterns.{Pattern}
 use Rattle.bye_pattern.specs.Trees.{node, leaf, Select, plain_select}
 use Rattle.bye_pattern.specs.Classes.{InAndPlain}

@@ -1,4 +1,3 @@
-pub mod Mappings
 pub mod Patterns
 pub mod Conditions
 pub mod Algebra
@@ -8,7 +7,6 @@ pub mod Nodes
 pub mod Conjuncts
 pub mod Classes
 pub mod Fitting
-pub mod Domains
 pub mod Optional
 pub mod Starting
 pub mod Keeping

@@ -3,7 +3,7 @@ use Rattle.std.specs.Prelude.{Bool, false, ◌&&◌, List, Option, Some, None}
 use Rattle.std.specs.List.{list_any, list_all}
 use Rattle.bye_terms.specs.declared.term.Term.{Term}
 use Rattle.bye_terms.specs.Terms.{Statement}
-use Rattle.bye_pattern.specs.Mappings.{Mapping, Pairs, row_mapping}
+use Rattle.bye_table.specs.Mappings.{Mapping, Pairs, row_mapping}
 use Rattle.bye_pattern.specs.Patterns.{Pattern, slot_under}
 use Rattle.bye_pattern.specs.Conditions.{same_term}
 

@@ -2,12 +2,12 @@
 use Rattle.std.specs.Prelude.{◌≡◌, true, List, [], ◌⊎◌, ◌↔◌}
 use Rattle.std.specs.List.{AllByRecursion}
 use Rattle.bye_terms.specs.Members.{In, EachOnce}
-use Rattle.bye_pattern.specs.Mappings.{Name, Mapping}
+use Rattle.bye_table.specs.Mappings.{Name, Mapping}
 use Rattle.bye_pattern.specs.Patterns.{all_vars}
 use Rattle.bye_pattern.specs.Trees.{Tree, node, Forest, leaf, more, own_triples, own_conds, own_vars, tree_vars, Select}
 use Rattle.bye_pattern.specs.Designed.{IsWellDesigned}
 use Rattle.bye_pattern.specs.Classes.{IsClassTriple, IsClassCond}
-use Rattle.bye_pattern.specs.Domains.{IsSeen, IsBelow, AreAlike, BindsEach}
+use Rattle.bye_table.specs.Domains.{IsSeen, IsBelow, AreAlike, BindsEach}
 
 -- u is a node of the tree, with all below it, and p are the variables of its parent's triples
 abbrev mutual

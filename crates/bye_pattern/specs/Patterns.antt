@@ -5,7 +5,7 @@ use Rattle.bye_terms.specs.Terms.{Statement, is_iri_term, is_blank}
 use Rattle.bye_terms.specs.Members.{In}
 use Rattle.bye_pattern.specs.declared.slot.Slot.{Slot}
 use Rattle.bye_pattern.specs.declared.slot.Slot.TheVariants.{Var, Const}
-use Rattle.bye_pattern.specs.Mappings.{Name, Mapping}
+use Rattle.bye_table.specs.Mappings.{Name, Mapping}
 
 -- a triple pattern: a variable or a constant in each place
 pub record Pattern : Type 0 where

@@ -4,7 +4,7 @@ use Rattle.std.specs.List.{flat_map}
 use Rattle.bye_terms.specs.Spellings.{term_text}
 use Rattle.bye_pattern.specs.declared.slot.Slot.{Slot}
 use Rattle.bye_pattern.specs.declared.slot.Slot.TheVariants.{Var, Const}
-use Rattle.bye_pattern.specs.Mappings.{Name}
+use Rattle.bye_table.specs.Mappings.{Name}
 use Rattle.bye_pattern.specs.Patterns.{Pattern}
 use Rattle.bye_pattern.specs.Conditions.{Kind, AnIri, ABlank, ALiteral, Expr, IsBound, Same, KindOf, Not, And, Or, cond_expr}
 use Rattle.bye_pattern.specs.Trees.{Tree, node, Forest, leaf, more, Select}

@@ -3,7 +3,7 @@ use Rattle.std.specs.Prelude.{◌≡◌, ℕ, cond, List, [], ◌∷◌, ◌++�
 use Rattle.bye_terms.specs.Members.{In}
 use Rattle.bye_terms.specs.Reading.{◌>>=◌, after_at, iri_at}
 use Rattle.bye_terms.specs.declared.term.Term.TheVariants.{Iri}
-use Rattle.bye_pattern.specs.Mappings.{Name, Pairs}
+use Rattle.bye_table.specs.Mappings.{Name, Pairs}
 use Rattle.bye_pattern.specs.Tables.{is_header_name, IsHeader, name_text, tabbed}
 
 -- the name that a field of the header is

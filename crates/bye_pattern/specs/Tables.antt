@@ -6,7 +6,7 @@ use Rattle.bye_terms.specs.Characters.{is_letter_or_digit}
 use Rattle.bye_terms.specs.Iris.{IsIri}
 use Rattle.bye_terms.specs.Members.{EachOnce}
 use Rattle.bye_terms.specs.Spellings.{term_text}
-use Rattle.bye_pattern.specs.Mappings.{Name, Pairs}
+use Rattle.bye_table.specs.Mappings.{Name, Pairs}
 
 -- the names of its columns, and its rows in their order
 pub record TableValue : Type 0 where

@@ -1,7 +1,7 @@
 -- Trees of groups as plain data, their translation to the algebra (SPARQL 1.1 Query, section 18.2).
 use Rattle.std.specs.Prelude.{Bool, true, List, [], ◌++◌, map}
 use Rattle.bye_pattern.specs.declared.cond.Cond.{Cond}
-use Rattle.bye_pattern.specs.Mappings.{Name}
+use Rattle.bye_table.specs.Mappings.{Name}
 use Rattle.bye_pattern.specs.Patterns.{Pattern, all_vars}
 use Rattle.bye_pattern.specs.Conditions.{Expr, cond_expr}
 use Rattle.bye_pattern.specs.Algebra.{Alg, Bgp, LeftJoin, Filter}

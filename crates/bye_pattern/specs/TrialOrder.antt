@@ -5,7 +5,7 @@ use Rattle.std.specs.List.{AllByRecursion}
 use Rattle.std.specs.Cmp.Lexicographic.{slice_cmp}
 use Rattle.std.specs.Ordering.{nat_cmp, ordering_then, is_lt}
 use Rattle.std.specs.declared.cmp.Ordering.{Ordering}
-use Rattle.bye_pattern.specs.Mappings.{Name, is_in}
+use Rattle.bye_table.specs.Mappings.{Name, is_in}
 use Rattle.bye_pattern.specs.Patterns.{Pattern, vars}
 use Rattle.bye_pattern.specs.Printed.{root_line}
 

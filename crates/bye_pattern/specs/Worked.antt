@@ -8,7 +8,7 @@ use Rattle.bye_pattern.specs.declared.slot.Slot.TheVariants.{Var, Const}
 use Rattle.bye_pattern.specs.declared.cond.Cond.TheVariants as conds
 use Rattle.bye_pattern.specs.declared.class.Class.TheVariants.{And, Optional}
 use Rattle.bye_pattern.specs.declared.rule.Rule.TheVariants.{NoNewVariable, NotWellDesigned, UnsafeCondition}
-use Rattle.bye_pattern.specs.Mappings.{Name, Mapping, row_mapping}
+use Rattle.bye_table.specs.Mappings.{Name, Mapping, row_mapping}
 use Rattle.bye_pattern.specs.Patterns.{Pattern}
 use Rattle.bye_pattern.specs.Conditions.{Same}
 use Rattle.bye_pattern.specs.Algebra.{IsAnswer}

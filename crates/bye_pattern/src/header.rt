@@ -1,7 +1,7 @@
 ghost use Rattle.std.specs.Prelude.{◌≡◌, ◌↔◌, List, IfOk, IsTrue, IfSome, IfNone, true, false};
 ghost use Rattle.std.specs.Str.{chars};
 ghost use Rattle.std.specs.List.{list_all, Contains};
-ghost use Rattle.bye_pattern.specs.Mappings.{Name};
+ghost use Rattle.bye_table.specs.Mappings.{Name};
 ghost use Rattle.bye_pattern.specs.Tables as spec;
 ghost use Rattle.bye_pattern.specs.Reading.{name_of, IsAdded, IsRefused, IsHeaderLine};
 

@@ -4,7 +4,7 @@ ghost use Rattle.std.specs.Prelude.{◌≡◌, ◌<◌, not, length, IfOk, find}
 ghost use Rattle.std.specs.List.{AllByRecursion, filter};
 ghost use Rattle.std.specs.Option.{option_map};
 ghost use Rattle.bye_terms.specs.Terms.{IsTriple};
-ghost use Rattle.bye_pattern.specs.Mappings.{NoRepeat, Exactly};
+ghost use Rattle.bye_table.specs.Mappings.{NoRepeat, Exactly};
 ghost use Rattle.bye_pattern.specs.Candidates as candidate;
 ghost use Rattle.bye_pattern.specs.Meeting as meeting;
 ghost use Rattle.bye_pattern.specs.Covering as covering;
@@ -15,7 +15,7 @@ use crate::learned::Learned;
 use crate::meeting::meets_all;
 use crate::pattern::TriplePattern;
 use crate::ranked::in_trial_order;
-use crate::row::Row;
+use bye_table::Row;
 use crate::slot::Slot;
 use crate::table::Table;
 use bye_terms::{Memory, Triple, Var, push_item};

@@ -3,12 +3,12 @@
 ghost use Rattle.std.specs.Prelude.{◌≡◌, ℕ};
 ghost use Rattle.std.specs.Option.{option_map};
 ghost use Rattle.std.specs.Str.{bytes_eq};
-ghost use Rattle.bye_pattern.specs.Mappings.{row_mapping};
+ghost use Rattle.bye_table.specs.Mappings.{row_mapping};
 ghost use Rattle.bye_pattern.specs.Patterns.{slot_under};
 ghost use Rattle.bye_pattern.specs.Meeting as spec;
 
 use crate::pattern::TriplePattern;
-use crate::row::Row;
+use bye_table::Row;
 use crate::slot::Slot;
 use bye_terms::{Term, Triple, Var};
 

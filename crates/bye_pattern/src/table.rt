@@ -1,11 +1,11 @@
 ghost use Rattle.std.specs.Prelude.{◌≡◌, List, IfOk, IsErrOf};
 ghost use Rattle.std.specs.Str.{chars};
-ghost use Rattle.bye_pattern.specs.Mappings.{Pairs};
+ghost use Rattle.bye_table.specs.Mappings.{Pairs};
 ghost use Rattle.bye_pattern.specs.Tables.{TableValue, IsHeader, IsRows, IsTable, IsFirstTable};
 
 use crate::cells::read_cells;
 use crate::header::read_header;
-use crate::row::Row;
+use bye_table::Row;
 use crate::table_err::TableErr;
 use bye_terms::{Cursor, Memory, Var, push_item};
 use std::alloc::Global;

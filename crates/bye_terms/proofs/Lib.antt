@@ -1,4 +1,5 @@
 pub mod Members
+pub mod Lists
 pub mod Tests
 pub mod Texts
 pub mod Orders

@@ -1,7 +1,7 @@
 use Rattle.std.proofs.Common.{◌≡◌, refl, ◌<◌, length, Bool, false, ◌==◌, List, inl, inr, subst, arith}
 use Rattle.std.proofs.lemmas.Result.{err_from_is_err_and}
 use Rattle.bye_terms.specs.Terms.{Statement}
-use Rattle.bye_pattern.specs.Mappings.{Pairs}
+use Rattle.bye_table.specs.Mappings.{Pairs}
 use Rattle.bye_cli.specs.Documents.{Files, HasVerdict, Triples, Rows, Good}
 use Rattle.bye_cli.specs.Words.{Learn}
 use Rattle.bye_cli.specs.Problem.{IsGiven, IsAsked, IsRead, IsWritten}

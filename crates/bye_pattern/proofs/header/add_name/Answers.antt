@@ -2,7 +2,7 @@ use Rattle.std.proofs.Common.{◌≡◌, ℕ, Bool, true, false, List, Option, S
 use Rattle.std.specs.List.{Contains}
 use Rattle.bye_terms.specs.Members.{In}
 use Rattle.bye_terms.proofs.Readings.{some_same}
-use Rattle.bye_pattern.specs.Mappings.{Name}
+use Rattle.bye_table.specs.Mappings.{Name}
 use Rattle.bye_pattern.specs.Reading.{name_of, IsRefused}
 use Rattle.bye_terms.proofs.Members.{in_contains, contains_in}
 use Rattle.bye_terms.proofs.Tests.{not_both}

@@ -1,6 +1,6 @@
 use Rattle.std.proofs.Common.{not, Some, sym, ◌∙◌, ap}
 use Rattle.std.specs.Prelude.{find}
-use Rattle.bye_pattern.specs.Mappings.{Name}
+use Rattle.bye_table.specs.Mappings.{Name}
 use Rattle.bye_pattern.specs.Covering.{covers}
 use Rattle.bye_pattern.proofs.Covered.{all_covered, first_uncovered, learned, refused}
 use Rattle.bye_pattern.proofs.learner.learn.Goals as goal

@@ -2,7 +2,7 @@ use Rattle.std.proofs.Common.{◌<◌, length, List, sym, ◌∙◌, subst, Resu
 use Rattle.std.specs.List.{filter}
 use Rattle.std.specs.Result.{IfOk}
 use Rattle.bye_terms.specs.Members.{In}
-use Rattle.bye_pattern.specs.Mappings.{Pairs}
+use Rattle.bye_table.specs.Mappings.{Pairs}
 use Rattle.bye_pattern.specs.Candidates.{candidates}
 use Rattle.bye_pattern.specs.Meeting.{meets_all}
 use Rattle.bye_pattern.proofs.Covered.{strongest, first_row}

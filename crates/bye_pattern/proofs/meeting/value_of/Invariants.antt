@@ -1,5 +1,5 @@
 use Rattle.std.proofs.Common.{◌≡◌, drop}
-use Rattle.bye_pattern.specs.Mappings.{row_mapping}
+use Rattle.bye_table.specs.Mappings.{row_mapping}
 use Rattle.bye_pattern.proofs.meeting.value_of.Given as goal
 
 abbrev pub invariant-loop-e : goal.invariant-loop-e

@@ -1,6 +1,6 @@
 use Rattle.std.proofs.Common.{◌≡◌, List, ℕ, [], ◌∷◌, ◌++◌, ◌<◌, length, sym, ◌∙◌, ap, arith}
 use Rattle.bye_terms.proofs.Tests.{not_both}
-use Rattle.bye_pattern.specs.Mappings.{Pairs}
+use Rattle.bye_table.specs.Mappings.{Pairs}
 use Rattle.bye_pattern.specs.Tables.{row_text}
 use Rattle.bye_pattern.proofs.RowLines.{row_takes, row_length, rows_push, filled_push, no_other_rows}
 use Rattle.bye_pattern.proofs.RowMappings.{row_repeats_none}

@@ -1,5 +1,5 @@
 ghost use Rattle.std.specs.Prelude.{◌≡◌};
-ghost use Rattle.bye_pattern.specs.Mappings.{NoRepeat};
+ghost use Rattle.bye_table.specs.Mappings.{NoRepeat};
 
 use bye_terms::{Term, Var};
 use std::marker::Model;
@@ -12,7 +12,7 @@ pub struct Row {
 }
 
 impl Model for Row {
-    ghost use Rattle.bye_pattern.specs.Mappings.{Pairs, NoRepeat};
+    ghost use Rattle.bye_table.specs.Mappings.{Pairs, NoRepeat};
 
     ghost Value = { Pairs };
 

@@ -2,7 +2,7 @@
 use Rattle.std.specs.Prelude.{◌≡◌, ℕ, zero, suc, List, [], ◌∷◌, ◌⊎◌}
 use Rattle.std.specs.List.{AllByRecursion}
 use Rattle.bye_terms.specs.Members.{In}
-use Rattle.bye_pattern.specs.Mappings.{Name, Mapping, Binds}
+use Rattle.bye_table.specs.Mappings.{Name, Mapping, Binds}
 
 -- the wanted rows, and the order of the wanted table's variables
 pub record Wanted : Type 0 where

@@ -5,7 +5,7 @@ use Rattle.std.proofs.lemmas.Slice.Eq.{bytes_eq-Decides}
 use Rattle.bye_terms.specs.declared.term.Term.{Term}
 use Rattle.bye_terms.specs.Members.{In}
 use Rattle.bye_terms.proofs.Tests.{bool_cases, one_part, second, not_both}
-use Rattle.bye_pattern.specs.Mappings.{Name, Mapping, nothing, Binds, Exactly, first_of, merge, Compatible, is_in, restrict}
+use Rattle.bye_table.specs.Mappings.{Name, Mapping, nothing, Binds, Exactly, first_of, merge, Compatible, is_in, restrict}
 
 -- a value that is there
 pub bound : (o : Option Term) → IsSome o → (t : Term) × (o ≡ Some t)
@@ -33,12 +33,12 @@ pub nothing_bound : (m : Mapping) → ((v : Name) → Binds m v → ⊥) → m �
 nothing_bound m h = λ i v. unbound (m v) (h v) i
 
 -- the test of a name in a list
-in_is : (vs : List Name) (v : Name) → In vs v → is_in vs v ≡ true
+pub in_is : (vs : List Name) (v : Name) → In vs v → is_in vs v ≡ true
 in_is [] v h = absurd h
 in_is (w ∷ vs) v (inl e) = ap (λ b. b || is_in vs v) ((bytes_eq-Decides w v).1 e)
 in_is (w ∷ vs) v (inr h) = second (bytes_eq w v) _ (in_is vs v h)
 
-is_in_in : (vs : List Name) (v : Name) → is_in vs v ≡ true → In vs v
+pub is_in_in : (vs : List Name) (v : Name) → is_in vs v ≡ true → In vs v
 is_in_in [] v h = cc
 is_in_in (w ∷ vs) v h = ⊎_elim (λ e. inl ((bytes_eq-Decides w v).0 e)) (λ e. inr (is_in_in vs v e)) (one_part _ _ h)
 
