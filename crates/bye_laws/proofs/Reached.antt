@@ -1,12 +1,12 @@
 -- The rows of a well-designed tree, by recursion: a row binds exactly the variables of the nodes that it reaches, meets these, and no child that it does not reach has values.
-use Rattle.std.proofs.Common.{◌≡◌, refl, List, ◌++◌, Some, ◌⊎◌, inl, inr, ⊎_elim, sym, ◌∙◌, ap, subst, IsSome}
+use Rattle.std.proofs.Common.{◌≡◌, refl, List, ◌++◌, map, Some, ◌⊎◌, inl, inr, ⊎_elim, sym, ◌∙◌, ap, subst, IsSome}
 use Rattle.std.specs.List.{AllByRecursion}
 use Rattle.bye_terms.specs.declared.term.Term.{Term}
 use Rattle.bye_terms.specs.Members.{In}
 use Rattle.bye_terms.specs.Terms.{Statement}
 use Rattle.bye_terms.proofs.Members.{in_cases, in_left, in_right}
 use Rattle.bye_pattern.specs.Algebra.{Alg, Bgp, Extends, IsRow, LeftJoin}
-use Rattle.bye_pattern.specs.Conditions.{AllHold, cond_vars}
+use Rattle.bye_pattern.specs.Conditions.{AllHoldExpr, cond_expr, cond_vars}
 use Rattle.bye_pattern.specs.Designed.{IsForest, IsTree}
 use Rattle.bye_table.specs.Mappings.{Binds, Compatible, Exactly, Mapping, Name, first_of, merge, restrict}
 use Rattle.bye_pattern.specs.Patterns.{Meets, all_vars}
@@ -14,11 +14,11 @@ use Rattle.bye_pattern.specs.Trees.{Forest, Tree, body, forest_vars, joined, lea
 use Rattle.bye_table.proofs.Merging.{binds, bound, merge_bound, merge_left, merge_right, not_bound, restrict_binds, restrict_in, restrict_some, restrict_tells, some_or_none, some_same, unbound}
 use Rattle.bye_pattern.proofs.Solutions.{all_told, meets_row, row_meets}
 use Rattle.bye_laws.specs.Reaching.{BindsAll, MeetsNode, NoValues}
-use Rattle.bye_laws.proofs.Telling.{all_hold, all_meet, all_meets_bind, all_met_any, all_met_told, merge_tells}
+use Rattle.bye_laws.proofs.Telling.{all_hold_expr, all_meet_expr, all_meets_bind, all_met_any, all_met_told, merge_tells}
 
 -- the rows of a group, child by child: what a child does to a row
 abbrev pub Step : List Statement → Mapping → Tree → Mapping → Type 0
-Step g x t y = Extends (IsRow g (body t)) (own_conds t) x y ⊎ ((y ≡ x) × ((n : Mapping) → Extends (IsRow g (body t)) (own_conds t) x n → ⊥))
+Step g x t y = Extends (IsRow g (body t)) (map cond_expr (own_conds t)) x y ⊎ ((y ≡ x) × ((n : Mapping) → Extends (IsRow g (body t)) (map cond_expr (own_conds t)) x n → ⊥))
 
 -- what all children do, one after another
 abbrev pub Steps : List Statement → Mapping → Forest → Mapping → Type 0
@@ -54,13 +54,13 @@ pub record Reached (g : List Statement) (t : Tree) (m : Mapping) : Type 0 where
 pub joined_steps : (g : List Statement) (f : Forest) (a : Alg) (m : Mapping) → IsRow g (joined a f) m → (x : Mapping) × IsRow g a x × Steps g x f m
 joined_steps g leaf a m row = (m, row, refl)
 joined_steps g (more t f) a m row =
-    let (y, (x, in_a, step), rest) = joined_steps g f (LeftJoin a (body t) (own_conds t)) m row in
+    let (y, (x, in_a, step), rest) = joined_steps g f (LeftJoin a (body t) (map cond_expr (own_conds t))) m row in
     (x, in_a, (y, step, rest))
 
 -- and the other way round
 pub steps_joined : (g : List Statement) (f : Forest) (a : Alg) (m x : Mapping) → IsRow g a x → Steps g x f m → IsRow g (joined a f) m
 steps_joined g leaf a m x row e = subst (IsRow g a) (sym e) row
-steps_joined g (more t f) a m x row (y, step, rest) = steps_joined g f (LeftJoin a (body t) (own_conds t)) m y (x, row, step) rest
+steps_joined g (more t f) a m x row (y, step, rest) = steps_joined g f (LeftJoin a (body t) (map cond_expr (own_conds t))) m y (x, row, step) rest
 
 -- each mapping has a step, and so a row is never lost
 pub some_step : (g : List Statement) (x : Mapping) (t : Tree) → (((y : Mapping) × Step g x t y) → ⊥) → ⊥
@@ -142,7 +142,7 @@ mutual
 
 -- they are told by the tree's variables
 mutual
-  reached_same : (m n : Mapping) (t : Tree) (v : Name) → ((v : Name) → In (tree_vars t) v → m v ≡ n v) → InReached m t v → InReached n t v
+  pub reached_same : (m n : Mapping) (t : Tree) (v : Name) → ((v : Name) → In (tree_vars t) v → m v ≡ n v) → InReached m t v → InReached n t v
   reached_same m n (node ps cs f) v same (inl h) = inl h
   reached_same m n (node ps cs f) v same (inr h) = inr (reached_same_forest m n f v (λ v h. same v (in_right (all_vars ps) _ v h)) h)
 
@@ -157,15 +157,15 @@ pub own_reached : (m : Mapping) (t : Tree) (v : Name) → In (own_vars t) v → 
 own_reached m (node ps cs f) v h = inl h
 
 -- each tree has a variable that no earlier node has
-tree_new : (parent seen : List Name) (t : Tree) → IsTree parent seen t → (v : Name) × In (own_vars t) v × (In seen v → ⊥)
+pub tree_new : (parent seen : List Name) (t : Tree) → IsTree parent seen t → (v : Name) × In (own_vars t) v × (In seen v → ⊥)
 tree_new parent seen (node ps cs f) d = d.0.new
 
 -- its conditions are safe
-tree_safe : (parent seen : List Name) (t : Tree) → IsTree parent seen t → AllByRecursion (λ c. (v : Name) → In (cond_vars c) v → In (own_vars t) v ⊎ In parent v) (own_conds t)
+pub tree_safe : (parent seen : List Name) (t : Tree) → IsTree parent seen t → AllByRecursion (λ c. (v : Name) → In (cond_vars c) v → In (own_vars t) v ⊎ In parent v) (own_conds t)
 tree_safe parent seen (node ps cs f) d = d.0.safe
 
 -- steps keep what was bound
-steps_ext : (g : List Statement) (f : Forest) (x m : Mapping) → Steps g x f m → (v : Name) (u : Term) → x v ≡ Some u → m v ≡ Some u
+pub steps_ext : (g : List Statement) (f : Forest) (x m : Mapping) → Steps g x f m → (v : Name) (u : Term) → x v ≡ Some u → m v ≡ Some u
 steps_ext g leaf x m e v u h = ap (λ m. m v) e ∙ h
 steps_ext g (more t f) x m (y, inl (b, row, same, hold, e), rest) v u h = steps_ext g f y m rest v u (ap (λ m. m v) e ∙ merge_left x b v u h)
 steps_ext g (more t f) x m (y, inr (e, none), rest) v u h = steps_ext g f y m rest v u (ap (λ m. m v) e ∙ h)
@@ -180,21 +180,21 @@ own_row g (node ps cs f) m all never =
     some_steps g f x (λ s. never (s.0, steps_joined g f (Bgp ps) s.0 x row s.1, λ v u h e. steps_ext g f x s.0 s.1 v u (restrict_tells (all_vars ps) m v u h e)))
 
 -- from a mapping over what was seen, through the children
-record Grown (g : List Statement) (x : Mapping) (f : Forest) (m : Mapping) : Type 0 where
-  ext : (v : Name) (u : Term) → x v ≡ Some u → m v ≡ Some u
-  over : (v : Name) → Binds m v → Binds x v ⊎ InReachedForest m f v
-  all : (v : Name) → InReachedForest m f v → Binds m v
-  below : BelowForest g m f
+pub record Grown (g : List Statement) (x : Mapping) (f : Forest) (m : Mapping) : Type 0 where
+  pub ext : (v : Name) (u : Term) → x v ≡ Some u → m v ≡ Some u
+  pub over : (v : Name) → Binds m v → Binds x v ⊎ InReachedForest m f v
+  pub all : (v : Name) → InReachedForest m f v → Binds m v
+  pub below : BelowForest g m f
 
 -- a variable that the later children reach, and that was seen before them, is bound
-later_bound : (parent seen : List Name) (t : Tree) (f : Forest) → IsForest parent seen (more t f) → (x m : Mapping) → ((v : Name) → In parent v → Binds x v)
+pub later_bound : (parent seen : List Name) (t : Tree) (f : Forest) → IsForest parent seen (more t f) → (x m : Mapping) → ((v : Name) → In parent v → Binds x v)
     → (v : Name) → In (tree_vars t) v → InReachedForest m f v → Binds x v
 later_bound parent seen t f d x m all v h k = all v (shared_forest parent (seen ++ tree_vars t) f d.1 v (reached_in_forest m f v k) (in_right seen _ v h))
 
 -- a child that was extended
-extended : (g : List Statement) (parent seen : List Name) (t : Tree) (f : Forest) → IsForest parent seen (more t f) → (x b m : Mapping)
+pub extended : (g : List Statement) (parent seen : List Name) (t : Tree) (f : Forest) → IsForest parent seen (more t f) → (x b m : Mapping)
     → ((v : Name) → In parent v → Binds x v) → ((v : Name) → Binds x v → In seen v)
-    → Compatible x b → AllHold (own_conds t) (merge x b) → Reached g t b → Grown g (merge x b) f m → Grown g x (more t f) m
+    → Compatible x b → AllHoldExpr (map cond_expr (own_conds t)) (merge x b) → Reached g t b → Grown g (merge x b) f m → Grown g x (more t f) m
 extended g parent seen t f d x b m all dom same hold r q =
     let ext_b : (v : Name) (u : Term) → b v ≡ Some u → m v ≡ Some u = λ v u h. q.ext v u (merge_right x b v u same h) in
     let b_own : (v : Name) → In (own_vars t) v → Binds b v = λ v h. r.bound v (own_reached b t v h) in
@@ -217,14 +217,14 @@ extended g parent seen t f d x b m all dom same hold r q =
       all = λ v h. ⊎_elim
           (λ k. let w = bound (b v) (r.bound v (reached_same m b t v (λ v h. sym (agree v h)) k.1)) in binds (m v) w.0 (ext_b v w.0 w.1))
           (λ k. q.all v k) h;
-      below = (inl (m_own, (all_told g b m (own_triples t) (λ v u h e. ext_b v u e) r.own, all_met_any (merge x b) m (own_conds t) q.ext (all_meet (merge x b) (own_conds t) hold)), below_tree g b m parent seen t d.0 agree r.below), q.below);
+      below = (inl (m_own, (all_told g b m (own_triples t) (λ v u h e. ext_b v u e) r.own, all_met_any (merge x b) m (own_conds t) q.ext (all_meet_expr (merge x b) (own_conds t) hold)), below_tree g b m parent seen t d.0 agree r.below), q.below);
     }
 
 -- values that make the mapping meet a child give a row of the child that extends it
 extends_by_values : (g : List Statement) (parent seen : List Name) (t : Tree) → IsTree parent seen t → (x m e : Mapping)
     → ((v : Name) → In parent v → Binds x v) → ((v : Name) → Binds x v → In seen v) → ((v : Name) (u : Term) → x v ≡ Some u → m v ≡ Some u)
     → ((b : Mapping) → IsRow g (body t) b → Reached g t b) → MeetsNode g (merge m e) t
-    → ((n : Mapping) → Extends (IsRow g (body t)) (own_conds t) x n → ⊥) → ⊥
+    → ((n : Mapping) → Extends (IsRow g (body t)) (map cond_expr (own_conds t)) x n → ⊥) → ⊥
 extends_by_values g parent seen t d x m e all dom ext sound meets none =
     own_row g t (merge m e) meets.0 (λ s.
     let b = s.0 in
@@ -236,16 +236,16 @@ extends_by_values g parent seen t d x m e all dom ext sound meets none =
       b,
       s.1,
       same,
-      all_hold (merge x b) (own_conds t) (all_met_told (merge m e) (merge x b) (own_vars t) parent (own_conds t) (tree_safe parent seen t d)
+      all_hold_expr (merge x b) (own_conds t) (all_met_told (merge m e) (merge x b) (own_vars t) parent (own_conds t) (tree_safe parent seen t d)
           (λ v u h k. merge_right x b v u same (s.2 v u h k))
           (λ v u h k. let w = bound (x v) (all v h) in merge_left x b v u (w.1 ∙ sym (merge_left m e v w.0 (ext v w.0 w.1)) ∙ k)) meets.1),
       refl,
     ))
 
 -- a child that nothing extends
-kept : (g : List Statement) (parent seen : List Name) (t : Tree) (f : Forest) → IsForest parent seen (more t f) → (x m : Mapping)
+pub kept : (g : List Statement) (parent seen : List Name) (t : Tree) (f : Forest) → IsForest parent seen (more t f) → (x m : Mapping)
     → ((v : Name) → In parent v → In seen v) → ((v : Name) → In parent v → Binds x v) → ((v : Name) → Binds x v → In seen v)
-    → ((b : Mapping) → IsRow g (body t) b → Reached g t b) → ((n : Mapping) → Extends (IsRow g (body t)) (own_conds t) x n → ⊥)
+    → ((b : Mapping) → IsRow g (body t) b → Reached g t b) → ((n : Mapping) → Extends (IsRow g (body t)) (map cond_expr (own_conds t)) x n → ⊥)
     → Grown g x f m → Grown g x (more t f) m
 kept g parent seen t f d x m up all dom sound none q =
     let shut : BindsAll m t → ⊥ = λ every.
@@ -259,11 +259,11 @@ kept g parent seen t f d x m up all dom sound none q =
     }
 
 -- a merge binds what the first binds
-merged_binds : (x b : Mapping) (parent : List Name) → ((v : Name) → In parent v → Binds x v) → (v : Name) → In parent v → Binds (merge x b) v
+pub merged_binds : (x b : Mapping) (parent : List Name) → ((v : Name) → In parent v → Binds x v) → (v : Name) → In parent v → Binds (merge x b) v
 merged_binds x b parent all v h = let w = bound (x v) (all v h) in binds (merge x b v) w.0 (merge_left x b v w.0 w.1)
 
 -- what a merge binds has been seen
-merged_seen : (g : List Statement) (t : Tree) (x b : Mapping) (seen : List Name) → ((v : Name) → Binds x v → In seen v) → Reached g t b → (v : Name) → Binds (merge x b) v → In (seen ++ tree_vars t) v
+pub merged_seen : (g : List Statement) (t : Tree) (x b : Mapping) (seen : List Name) → ((v : Name) → Binds x v → In seen v) → Reached g t b → (v : Name) → Binds (merge x b) v → In (seen ++ tree_vars t) v
 merged_seen g t x b seen dom r v h = ⊎_elim (λ k. in_left _ _ v (dom v k)) (λ k. in_right seen _ v (reached_in b t v (r.binds v k))) (merge_bound x b v h)
 
 -- a row reaches
@@ -294,7 +294,7 @@ mutual
       (sound_forest g parent (seen ++ tree_vars t) f d.1 x m (λ v h. in_left _ _ v (up v h)) all (λ v h. in_left _ _ v (dom v h)) (subst (λ y. Steps g y f m) e rest))
 
 -- the other direction: the part of a child that is reached is a row of it
-part_reached : (g : List Statement) (parent seen : List Name) (t : Tree) (f : Forest) → IsForest parent seen (more t f) → (x m : Mapping)
+pub part_reached : (g : List Statement) (parent seen : List Name) (t : Tree) (f : Forest) → IsForest parent seen (more t f) → (x m : Mapping)
     → ((v : Name) → In parent v → Binds x v) → ((v : Name) → Binds x v → In seen v)
     → BindsAll m t → MeetsNode g m t → BelowTree g m t
     → ((v : Name) → Binds m v → Binds x v ⊎ InReachedForest m (more t f) v) → ((v : Name) → InReachedForest m (more t f) v → Binds m v)
@@ -317,7 +317,7 @@ part_reached g parent seen t f d x m all dom every meets below over reach =
     }
 
 -- what is left after a child that is reached
-rest_grown : (g : List Statement) (t : Tree) (f : Forest) (x m : Mapping) → BelowForest g m f
+pub rest_grown : (g : List Statement) (t : Tree) (f : Forest) (x m : Mapping) → BelowForest g m f
     → ((v : Name) (u : Term) → x v ≡ Some u → m v ≡ Some u)
     → ((v : Name) → Binds m v → Binds x v ⊎ InReachedForest m (more t f) v) → ((v : Name) → InReachedForest m (more t f) v → Binds m v)
     → Grown g (merge x (restrict (tree_vars t) m)) f m
@@ -337,10 +337,10 @@ rest_grown g t f x m below ext over reach =
     }
 
 -- nothing extends the mapping by a child that is not reached
-nothing_extends : (g : List Statement) (parent seen : List Name) (t : Tree) (f : Forest) → IsForest parent seen (more t f) → (x m : Mapping)
+pub nothing_extends : (g : List Statement) (parent seen : List Name) (t : Tree) (f : Forest) → IsForest parent seen (more t f) → (x m : Mapping)
     → ((v : Name) → In parent v → Binds x v) → (BindsAll m t → ⊥) → NoValues g m t
     → ((v : Name) (u : Term) → x v ≡ Some u → m v ≡ Some u) → ((v : Name) → Binds m v → Binds x v ⊎ InReachedForest m (more t f) v)
-    → (n : Mapping) → Extends (IsRow g (body t)) (own_conds t) x n → ⊥
+    → (n : Mapping) → Extends (IsRow g (body t)) (map cond_expr (own_conds t)) x n → ⊥
 nothing_extends g parent seen t f d x m all shut none ext over n (b, row, same, hold, e) =
     let r = sound_tree g parent seen t d.0 b row in
     let v_own = restrict (own_vars t) b in
@@ -359,7 +359,7 @@ nothing_extends g parent seen t f d x m all shut none ext over n (b, row, same, 
           merge_right m v_own v u agree (told v u h (w.1 ∙ sym (merge_right x b v w.0 same w.1) ∙ k)))
           (λ v u h k. let w = bound (x v) (all v h) in
           merge_left m v_own v u (ext v w.0 w.1 ∙ sym (merge_left x b v w.0 w.1) ∙ k))
-          (all_meet (merge x b) (own_conds t) hold),
+          (all_meet_expr (merge x b) (own_conds t) hold),
     )
 
 -- and what reaches is a row
@@ -395,7 +395,7 @@ mutual
           b,
           complete_tree g parent seen t d.0 b r,
           same,
-          all_hold (merge x b) (own_conds t) (all_met_told m (merge x b) (own_vars t) parent (own_conds t) (tree_safe parent seen t d.0)
+          all_hold_expr (merge x b) (own_conds t) (all_met_told m (merge x b) (own_vars t) parent (own_conds t) (tree_safe parent seen t d.0)
               (λ v u i k. merge_right x b v u same (restrict_tells (tree_vars t) m v u (own_in t v i) k))
               (λ v u i k. let w = bound (x v) (all v i) in merge_left x b v u (w.1 ∙ sym (q.ext v w.0 w.1) ∙ k)) h.1.1),
           refl,

@@ -1,13 +1,14 @@
 -- What one mapping tells, another tells too: conditions, nodes and merges.
-use Rattle.std.proofs.Common.{◌≡◌, refl, Bool, true, List, [], ◌∷◌, Option, Some, None, ◌⊎◌, inl, inr, ⊎_elim, sym, ◌∙◌, ap, subst, IsSome}
+use Rattle.std.proofs.Common.{◌≡◌, refl, Bool, true, List, [], ◌∷◌, map, Option, Some, None, ◌⊎◌, inl, inr, ⊎_elim, sym, ◌∙◌, ap, subst, IsSome}
 use Rattle.std.specs.List.{AllByRecursion}
 use Rattle.std.specs.Option.{is_some}
 use Rattle.bye_terms.specs.declared.term.Term.{Term}
 use Rattle.bye_terms.specs.Members.{In}
 use Rattle.bye_terms.specs.Terms.{Statement}
+use Rattle.bye_terms.proofs.Lists.{all_map, map_all}
 use Rattle.bye_terms.proofs.Members.{in_cases}
 use Rattle.bye_pattern.specs.declared.cond.Cond.{Cond}
-use Rattle.bye_pattern.specs.Conditions.{AllHold, Holds, cond_vars, same_value}
+use Rattle.bye_pattern.specs.Conditions.{AllHold, AllHoldExpr, Holds, HoldsExpr, cond_expr, cond_vars, same_value}
 use Rattle.bye_pattern.specs.Conjuncts.{MeetsCond}
 use Rattle.bye_table.specs.Mappings.{Binds, Mapping, Name, first_of, merge}
 use Rattle.bye_pattern.specs.Patterns.{Meets, Pattern, all_vars, vars}
@@ -77,6 +78,13 @@ all_meet m (c ∷ cs) (h, all) = (holds_meets m c h, all_meet m cs all)
 pub all_hold : (m : Mapping) (cs : List Cond) → AllByRecursion (MeetsCond m) cs → AllHold cs m
 all_hold m [] all = tt
 all_hold m (c ∷ cs) (h, all) = (h.1, all_hold m cs all)
+
+-- the same of the expressions that they are
+pub all_meet_expr : (m : Mapping) (cs : List Cond) → AllHoldExpr (map cond_expr cs) m → AllByRecursion (MeetsCond m) cs
+all_meet_expr m cs all = all_meet m cs (map_all (HoldsExpr m) cond_expr cs all)
+
+pub all_hold_expr : (m : Mapping) (cs : List Cond) → AllByRecursion (MeetsCond m) cs → AllHoldExpr (map cond_expr cs) m
+all_hold_expr m cs all = all_map (HoldsExpr m) cond_expr cs (all_hold m cs all)
 
 -- a mapping that meets triple patterns binds their variables
 pub all_meets_bind : (g : List Statement) (m : Mapping) (ps : List Pattern) (v : Name) → AllByRecursion (Meets g m) ps → In (all_vars ps) v → Binds m v

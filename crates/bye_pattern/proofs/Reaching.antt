@@ -1,10 +1,11 @@
 -- Which variables the rows of a tree's algebra bind.
-use Rattle.std.proofs.Common.{List, [], ◌++◌, inl, inr, ⊎_elim, subst}
+use Rattle.std.proofs.Common.{List, [], ◌++◌, map, inl, inr, ⊎_elim, subst}
 use Rattle.bye_terms.specs.Terms.{Statement}
 use Rattle.bye_terms.specs.Members.{In}
 use Rattle.bye_terms.proofs.Members.{in_cases, in_left, in_right}
 use Rattle.bye_table.specs.Mappings.{Name, Mapping, Binds}
 use Rattle.bye_pattern.specs.Patterns.{all_vars}
+use Rattle.bye_pattern.specs.Conditions.{cond_expr}
 use Rattle.bye_pattern.specs.Algebra.{Alg, Bgp, LeftJoin, IsRow, IsAnswer}
 use Rattle.bye_pattern.specs.Trees.{Tree, node, Forest, leaf, more, body, joined, tree_vars, forest_vars, own_conds, Select, alg}
 use Rattle.bye_table.proofs.Merging.{merge_bound, restrict_binds}
@@ -27,10 +28,10 @@ mutual
       (λ k. ⊎_elim (λ k. in_left vs (forest_vars (more t f)) v k) (λ k. in_right vs (forest_vars (more t f)) v (in_left (tree_vars t) (forest_vars f) v k)) (in_cases vs (tree_vars t) v k))
       (λ k. in_right vs (forest_vars (more t f)) v (in_right (tree_vars t) (forest_vars f) v k))
       (in_cases (vs ++ tree_vars t) (forest_vars f) v
-      (joined_stays g (LeftJoin a (body t) (own_conds t)) (vs ++ tree_vars t) f (left_stays g a vs t stays (body_stays g t)) m v row h))
+      (joined_stays g (LeftJoin a (body t) (map cond_expr (own_conds t))) (vs ++ tree_vars t) f (left_stays g a vs t stays (body_stays g t)) m v row h))
 
   left_stays : (g : List Statement) (a : Alg) (vs : List Name) (t : Tree) → Stays g a vs → Stays g (body t) (tree_vars t)
-      → Stays g (LeftJoin a (body t) (own_conds t)) (vs ++ tree_vars t)
+      → Stays g (LeftJoin a (body t) (map cond_expr (own_conds t))) (vs ++ tree_vars t)
   left_stays g a vs (node ps cs f) stays below m v (x, row, inl (b, extra, same, all, e)) h =
       ⊎_elim (λ k. in_left vs _ v (stays x v row k)) (λ k. in_right vs _ v (below b v extra k)) (merge_bound x b v (subst (λ m. Binds m v) e h))
   left_stays g a vs (node ps cs f) stays below m v (x, row, inr (e, none)) h = in_left vs _ v (stays x v row (subst (λ m. Binds m v) e h))

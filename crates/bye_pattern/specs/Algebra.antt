@@ -2,15 +2,15 @@
 use Rattle.std.specs.Prelude.{◌≡◌, List, [], ◌∷◌, ◌⊎◌}
 use Rattle.bye_terms.specs.Terms.{Statement}
 use Rattle.bye_terms.specs.Members.{In}
-use Rattle.bye_pattern.specs.declared.cond.Cond.{Cond}
 use Rattle.bye_table.specs.Mappings.{Name, Mapping, nothing, Binds, merge, Compatible, restrict}
 use Rattle.bye_pattern.specs.Patterns.{Pattern, vars, Becomes}
-use Rattle.bye_pattern.specs.Conditions.{Expr, AllHold, AllHoldExpr}
+use Rattle.bye_pattern.specs.Conditions.{Expr, AllHoldExpr}
 
 -- an expression of the algebra
 pub data Alg : Type 0 where
   Bgp : List Pattern → Alg
-  LeftJoin : Alg → Alg → List Cond → Alg
+  Join : Alg → Alg → Alg
+  LeftJoin : Alg → Alg → List Expr → Alg
   Filter : List Expr → Alg → Alg
 
 -- a triple of the graph that the pattern becomes, and the mapping of exactly the pattern's variables
@@ -26,18 +26,19 @@ abbrev pub IsBgpRow : List Statement → List Pattern → Mapping → Type 0
 IsBgpRow g [] m = m ≡ nothing
 IsBgpRow g (p ∷ ps) m = IsJoin (IsMatch g p) (IsBgpRow g ps) m
 
--- the merge of a with a compatible row of the other side on which the conditions hold
-abbrev pub Extends : (Mapping → Type 0) → List Cond → Mapping → Mapping → Type 0
-Extends B cs a m = (b : Mapping) × B b × Compatible a b × AllHold cs (merge a b) × (m ≡ merge a b)
+-- the merge of a with a compatible row of the other side on which the expressions hold
+abbrev pub Extends : (Mapping → Type 0) → List Expr → Mapping → Mapping → Type 0
+Extends B es a m = (b : Mapping) × B b × Compatible a b × AllHoldExpr es (merge a b) × (m ≡ merge a b)
 
 -- a row of the left side that is extended, or that stays where nothing extends it
-abbrev pub IsLeftJoin : (Mapping → Type 0) → (Mapping → Type 0) → List Cond → Mapping → Type 0
-IsLeftJoin A B cs m = (a : Mapping) × A a × (Extends B cs a m ⊎ ((m ≡ a) × ((n : Mapping) → Extends B cs a n → ⊥)))
+abbrev pub IsLeftJoin : (Mapping → Type 0) → (Mapping → Type 0) → List Expr → Mapping → Type 0
+IsLeftJoin A B es m = (a : Mapping) × A a × (Extends B es a m ⊎ ((m ≡ a) × ((n : Mapping) → Extends B es a n → ⊥)))
 
 -- a row of the expression
 abbrev pub IsRow : List Statement → Alg → Mapping → Type 0
 IsRow g (Bgp ps) m = IsBgpRow g ps m
-IsRow g (LeftJoin a b cs) m = IsLeftJoin (IsRow g a) (IsRow g b) cs m
+IsRow g (Join a b) m = IsJoin (IsRow g a) (IsRow g b) m
+IsRow g (LeftJoin a b es) m = IsLeftJoin (IsRow g a) (IsRow g b) es m
 IsRow g (Filter es a) m = IsRow g a m × AllHoldExpr es m
 
 -- a row restricted to the selected variables; as a set, each answer counts once

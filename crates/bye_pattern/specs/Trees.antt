@@ -34,7 +34,7 @@ abbrev mutual
 
   pub joined : Alg → Forest → Alg
   joined a leaf = a
-  joined a (more t f) = joined (LeftJoin a (body t) (own_conds t)) f
+  joined a (more t f) = joined (LeftJoin a (body t) (map cond_expr (own_conds t))) f
 
 -- SELECT, with DISTINCT or without, of these variables, over this tree, with the further expressions of its root's FILTERs
 pub record Select : Type 0 where
