@@ -1,5 +1,9 @@
 pub mod Reaching
+pub mod Parts
 pub mod Nodes
 pub mod Completeness
 pub mod Passing
 pub mod LocalPass
+pub mod QueryDomains
+pub mod Settling
+pub mod Serving
