@@ -23,6 +23,7 @@ use Rattle.bye_pattern.specs.Trees.{Forest, Select, Tree, leaf, more, node, plai
 use Rattle.bye_pattern.specs.TrialOrder.{IsInStrictOrder, trial_cmp}
 use Rattle.bye_pattern.proofs.Orders.{trial_weak}
 use Rattle.bye_laws.specs.Completeness.{Allows, AreExamples}
+use Rattle.bye_laws.specs.Parts.{WithinTree}
 use Rattle.bye_laws.proofs.AnyRight.{passes_keep_right}
 use Rattle.bye_laws.proofs.Examples.{one_seen_list}
 use Rattle.bye_laws.proofs.Once.{once_tree, some_tree}
@@ -165,11 +166,12 @@ kept_is_one class level g w unwanted q r examples a b =
     let tree = once_tree (λ u. IsRight class level g w.rows unwanted (plain_select b.start.vars u)) b.start.tree a.tree b.tree (subst (λ s. P s a.tree) same a.thinned) b.thinned in
     a.query ∙ (λ i. plain_select (same i).vars (tree i)) ∙ sym b.query
 
--- and there is one where it is decided what is right
+-- and there is one where it is decided which parts are right
 pub something_is_kept : (class : Class) (level : Level) (g : List Statement) (w : Wanted) (unwanted : List Mapping) (start : Select) → IsStart class level g w start
-    → ((q : Select) → IsRight class level g w.rows unwanted q ⊎ (IsRight class level g w.rows unwanted q → ⊥)) → (q : Select) × IsKept class level g w unwanted q
+    → ((t : Tree) → WithinTree t start.tree → IsRight class level g w.rows unwanted (plain_select start.vars t) ⊎ (IsRight class level g w.rows unwanted (plain_select start.vars t) → ⊥))
+    → (q : Select) × IsKept class level g w unwanted q
 something_is_kept class level g w unwanted start begun decide =
-    let pass = some_tree (λ t. IsRight class level g w.rows unwanted (plain_select start.vars t)) (λ t. decide (plain_select start.vars t)) start.tree in
+    let pass = some_tree (λ t. IsRight class level g w.rows unwanted (plain_select start.vars t)) start.tree decide in
     (plain_select start.vars pass.0, record { start = start; tree = pass.0; begun = begun; thinned = pass.1; query = refl })
 
 -- it is right and minimal where the start is right

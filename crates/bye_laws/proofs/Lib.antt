@@ -3,7 +3,6 @@ pub mod Withins
 pub mod Reached
 pub mod ReachedNodes
 pub mod Passes
-pub mod Once
 pub mod Examples
 pub mod CommonConditions
 pub mod Conjunctions
@@ -19,6 +18,7 @@ pub mod Over
 pub mod Labels
 pub mod Lifts
 pub mod PassMaps
+pub mod Once
 pub mod QueryPlaces
 pub mod QueryDomains
 pub mod StartTrees

@@ -1,6 +1,9 @@
--- One pass has at most one result, and it has one where it is decided what is right.
+-- One pass has at most one result, and it has one where it is decided which parts are right.
 use Rattle.std.proofs.Common.{◌≡◌, refl, List, [], ◌∷◌, ◌⊎◌, inl, inr, ⊎_elim, sym, ◌∙◌, ap, subst}
 use Rattle.bye_pattern.specs.Keeping.{IsThinned, IsThinnedForest, IsThinnedTree}
+use Rattle.bye_laws.specs.Parts.{Within, WithinForest, WithinTree}
+use Rattle.bye_laws.proofs.PassMaps.{within_forest, within_thinned, within_tree}
+use Rattle.bye_laws.proofs.Passes.{forest_within, within_more}
 use Rattle.bye_pattern.specs.Trees.{Forest, Tree, leaf, more, node}
 
 -- of a list
@@ -28,26 +31,29 @@ mutual
       let y : e2 ≡ e = once_forest (λ e. Right (more u e)) f e2 e (subst (λ u. IsThinnedForest (λ e. Right (more u e)) f e2) x rest2) rest in
       same ∙ sym (same2 ∙ (λ i. more (x i) (y i)))
 
--- with a decision of rightness there is a result
-some : {X : Type 0} (Right : List X → Type 0) → ((xs : List X) → Right xs ⊎ (Right xs → ⊥)) → (xs : List X) → (r : List X) × IsThinned Right xs r
-some Right decide [] = ([], refl)
-some {X} Right decide (x ∷ xs) = ⊎_elim
-    (λ h. let w = some Right decide xs in (w.0, inl (h, w.1)))
-    (λ h. let w = some (λ zs. Right (x ∷ zs)) (λ zs. decide (x ∷ zs)) xs in (x ∷ w.0, inr (h, (w.0, w.1, refl))))
-    (decide xs)
+-- where it is decided which parts are right there is a result
+some : {X : Type 0} (Right : List X → Type 0) (xs : List X) → ((ys : List X) → Within ys xs → Right ys ⊎ (Right ys → ⊥)) → (r : List X) × IsThinned Right xs r
+some Right [] decide = ([], refl)
+some {X} Right (x ∷ xs) decide = ⊎_elim
+    (λ h. let w = some Right xs (λ ys k. decide ys (λ y i. inr (k y i))) in (w.0, inl (h, w.1)))
+    (λ h. let w = some (λ zs. Right (x ∷ zs)) xs (λ zs k. decide (x ∷ zs) (within_more x zs xs k)) in (x ∷ w.0, inr (h, (w.0, w.1, refl))))
+    (decide xs (λ y i. inr i))
 
 -- of a tree there is a result
 mutual
-  pub some_tree : (Right : Tree → Type 0) → ((t : Tree) → Right t ⊎ (Right t → ⊥)) → (t : Tree) → (r : Tree) × IsThinnedTree Right t r
-  some_tree Right decide (node ps cs f) =
-      let x = some_forest (λ e. Right (node ps cs e)) (λ e. decide (node ps cs e)) f in
-      let y = some (λ ds. Right (node ps ds x.0)) (λ ds. decide (node ps ds x.0)) cs in
-      let z = some (λ qs. Right (node qs y.0 x.0)) (λ qs. decide (node qs y.0 x.0)) ps in
+  pub some_tree : (Right : Tree → Type 0) (t : Tree) → ((u : Tree) → WithinTree u t → Right u ⊎ (Right u → ⊥)) → (r : Tree) × IsThinnedTree Right t r
+  some_tree Right (node ps cs f) decide =
+      let x = some_forest (λ e. Right (node ps cs e)) f (λ e k. decide (node ps cs e) (λ p i. i, λ c i. i, k)) in
+      let within_x = within_forest (λ e. Right (node ps cs e)) f x.0 x.1 in
+      let y = some (λ ds. Right (node ps ds x.0)) cs (λ ds k. decide (node ps ds x.0) (λ p i. i, k, within_x)) in
+      let within_y = within_thinned (λ ds. Right (node ps ds x.0)) cs y.0 y.1 in
+      let z = some (λ qs. Right (node qs y.0 x.0)) ps (λ qs k. decide (node qs y.0 x.0) (k, within_y, within_x)) in
       (node z.0 y.0 x.0, (x.0, y.0, z.0, x.1, y.1, z.1, refl))
 
-  pub some_forest : (Right : Forest → Type 0) → ((f : Forest) → Right f ⊎ (Right f → ⊥)) → (f : Forest) → (r : Forest) × IsThinnedForest Right f r
-  some_forest Right decide leaf = (leaf, refl)
-  some_forest Right decide (more t f) =
-      let x = some_tree (λ u. Right (more u f)) (λ u. decide (more u f)) t in
-      let y = some_forest (λ e. Right (more x.0 e)) (λ e. decide (more x.0 e)) f in
+  pub some_forest : (Right : Forest → Type 0) (f : Forest) → ((e : Forest) → WithinForest e f → Right e ⊎ (Right e → ⊥)) → (r : Forest) × IsThinnedForest Right f r
+  some_forest Right leaf decide = (leaf, refl)
+  some_forest Right (more t f) decide =
+      let x = some_tree (λ u. Right (more u f)) t (λ u k. decide (more u f) (k, forest_within f)) in
+      let within_x = within_tree (λ u. Right (more u f)) t x.0 x.1 in
+      let y = some_forest (λ e. Right (more x.0 e)) f (λ e k. decide (more x.0 e) (within_x, k)) in
       (more x.0 y.0, (x.0, y.0, x.1, y.1, refl))

@@ -27,7 +27,7 @@ mutual
       subst (λ r. WithinTree r (node ps cs f)) (sym same)
       (within_thinned (λ qs. R (node qs ds e)) ps qs triples, within_thinned (λ ds. R (node ps ds e)) cs ds conds, within_forest (λ e. R (node ps cs e)) f e below)
 
-  within_forest : (R : Forest → Type 0) (f r : Forest) → IsThinnedForest R f r → WithinForest r f
+  pub within_forest : (R : Forest → Type 0) (f r : Forest) → IsThinnedForest R f r → WithinForest r f
   within_forest R leaf r e = subst (λ r. WithinForest r leaf) (sym e) tt
   within_forest R (more t f) r (u, e, one, others, same) = subst (λ r. WithinForest r (more t f)) (sym same) (within_tree (λ u. R (more u f)) t u one, within_forest (λ e. R (more u e)) f e others)
 

@@ -17,10 +17,11 @@ abbrev pub KeptIsOne : Type 0
 KeptIsOne = (class : Class) (level : Level) (g : List Statement) (w : Wanted) (unwanted : List Mapping) (q r : Select) → AreExamples w
     → IsKept class level g w unwanted q → IsKept class level g w unwanted r → q ≡ r
 
--- where it is decided which queries are right, a start has a query that is kept of it
+-- where it is decided which parts of a start are right, there is a query that is kept of it
 abbrev pub SomethingIsKept : Type 0
 SomethingIsKept = (class : Class) (level : Level) (g : List Statement) (w : Wanted) (unwanted : List Mapping) (start : Select) → IsStart class level g w start
-    → ((q : Select) → IsRight class level g w.rows unwanted q ⊎ (IsRight class level g w.rows unwanted q → ⊥)) → (q : Select) × IsKept class level g w unwanted q
+    → ((t : Tree) → WithinTree t start.tree → IsRight class level g w.rows unwanted (plain_select start.vars t) ⊎ (IsRight class level g w.rows unwanted (plain_select start.vars t) → ⊥))
+    → (q : Select) × IsKept class level g w unwanted q
 
 -- what is kept of a start that is right is right, and minimal
 abbrev pub KeptIsMinimal : Type 0
