@@ -32,3 +32,4 @@ pub mod LocalPass
 pub mod LocalQuestions
 pub mod KeptQueries
 pub mod BothClasses
+pub mod PatternLines

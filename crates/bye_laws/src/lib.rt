@@ -7,6 +7,7 @@ ghost use Rattle.bye_laws.specs.Nodes.{AnswersByNode};
 ghost use Rattle.bye_laws.specs.Completeness.{StartsFitIfAny, NoneFitsAsTheStart, CertificatesAreSound, CertificatesAreEnough, DomainTreesByClaims, StartsByCovering};
 ghost use Rattle.bye_laws.specs.Passing.{KeptIsOne, SomethingIsKept, KeptIsMinimal};
 ghost use Rattle.bye_laws.specs.LocalPass.{LocalPassKeeps, LocalQuestions};
+ghost use Rattle.bye_laws.specs.Ordering.{OnePattern};
 
 /// A row of a well-designed tree is told by the nodes that it reaches (SPARQL 1.1 Query, section 18.5).
 pub fn rows_by_reaching()
@@ -72,4 +73,9 @@ pub fn local_pass_keeps()
 /// What is asked at a node before a conjunct goes.
 pub fn local_questions()
     ensures { LocalQuestions }
+{}
+
+/// Valid patterns are told by their written lines, and of two different ones exactly one is tried before the other.
+pub fn one_pattern()
+    ensures { OnePattern }
 {}
