@@ -60,21 +60,21 @@ sorted_same {X} R apart (x ∷ xs) (y ∷ ys) a b same =
     )
 
 -- the order of trial of patterns, and that of conditions
-tried_strictly : (ps : List Pattern) → IsInStrictOrder ps → IsSorted (λ p q. is_lt (trial_cmp p q) ≡ true) ps
+pub tried_strictly : (ps : List Pattern) → IsInStrictOrder ps → IsSorted (λ p q. is_lt (trial_cmp p q) ≡ true) ps
 tried_strictly [] h = tt
 tried_strictly (p ∷ ps) h = (h.0, tried_strictly ps h.1)
 
 -- of two patterns not both stand before the other
-patterns_apart : (p q : Pattern) → is_lt (trial_cmp p q) ≡ true → is_lt (trial_cmp q p) ≡ true → ⊥
+pub patterns_apart : (p q : Pattern) → is_lt (trial_cmp p q) ≡ true → is_lt (trial_cmp q p) ≡ true → ⊥
 patterns_apart p q a b = not_both _ b (trial_weak.one_way p q a)
 
 -- the same of conditions
-tried_in_order : (header : List Name) (cs : List Cond) → AreInTrialOrder header cs → IsSorted (IsTriedBefore header) cs
+pub tried_in_order : (header : List Name) (cs : List Cond) → AreInTrialOrder header cs → IsSorted (IsTriedBefore header) cs
 tried_in_order header [] h = tt
 tried_in_order header (c ∷ cs) h = (h.0, tried_in_order header cs h.1)
 
 -- of two conditions not both stand before the other
-conditions_apart : (header : List Name) → EachOnce header → (c d : Cond) → IsTriedBefore header c d → IsTriedBefore header d c → ⊥
+pub conditions_apart : (header : List Name) → EachOnce header → (c d : Cond) → IsTriedBefore header c d → IsTriedBefore header d c → ⊥
 conditions_apart header once (conds.Bound v) (conds.Bound w) a b = not_both_before header v w once a b
 conditions_apart header once (conds.Bound v) (conds.SameVar w x) a b = b
 conditions_apart header once (conds.Bound v) (conds.SameConst w t) a b = b

@@ -33,3 +33,4 @@ pub mod LocalQuestions
 pub mod KeptQueries
 pub mod BothClasses
 pub mod PatternLines
+pub mod SortedLists

@@ -7,7 +7,7 @@ ghost use Rattle.bye_laws.specs.Nodes.{AnswersByNode};
 ghost use Rattle.bye_laws.specs.Completeness.{StartsFitIfAny, NoneFitsAsTheStart, CertificatesAreSound, CertificatesAreEnough, DomainTreesByClaims, StartsByCovering};
 ghost use Rattle.bye_laws.specs.Passing.{KeptIsOne, SomethingIsKept, KeptIsMinimal};
 ghost use Rattle.bye_laws.specs.LocalPass.{LocalPassKeeps, LocalQuestions};
-ghost use Rattle.bye_laws.specs.Ordering.{OnePattern};
+ghost use Rattle.bye_laws.specs.Ordering.{OnePattern, SortedListsAreOneAndThere};
 
 /// A row of a well-designed tree is told by the nodes that it reaches (SPARQL 1.1 Query, section 18.5).
 pub fn rows_by_reaching()
@@ -78,4 +78,9 @@ pub fn local_questions()
 /// Valid patterns are told by their written lines, and of two different ones exactly one is tried before the other.
 pub fn one_pattern()
     ensures { OnePattern }
+{}
+
+/// Valid patterns have one list in strict order, and conditions over a header one list in the order of trial.
+pub fn sorted_lists_are_one_and_there()
+    ensures { SortedListsAreOneAndThere }
 {}
