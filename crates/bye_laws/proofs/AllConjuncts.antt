@@ -1,10 +1,13 @@
 -- The lists of all common conjuncts at a variable: whatever is claimed of them is claimed of lists that are there.
+use Rattle.bye_pattern.specs.declared.level.Level.{Level}
 use Rattle.std.proofs.Common.{◌≡◌, refl, true, List, [], ◌∷◌, ◌++◌, map, Option, Some, None, inl, inr, ⊎_elim, sym, ap, subst, ◌↔◌}
 use Rattle.std.specs.List.{flat_map}
 use Rattle.bye_terms.specs.declared.term.Term.{Term}
 use Rattle.bye_terms.specs.Members.{In}
 use Rattle.bye_terms.specs.Terms.{Statement}
 use Rattle.bye_terms.proofs.Members.{all_in, flat_in, in_left, in_right}
+use Rattle.bye_pattern.specs.declared.kind.Kind.{Kind}
+use Rattle.bye_pattern.specs.declared.kind.Kind.TheVariants as kinds
 use Rattle.bye_pattern.specs.declared.cond.Cond.{Cond}
 use Rattle.bye_pattern.specs.declared.slot.Slot.{Slot}
 use Rattle.bye_pattern.specs.declared.slot.Slot.TheVariants.{Const, Var}
@@ -19,8 +22,8 @@ use Rattle.bye_pattern.proofs.SameTerms.{terms_same}
 use Rattle.bye_pattern.specs.declared.cond.Cond.TheVariants as conds
 
 -- all common triple patterns at x, and all common conditions in form, in any order
-abbrev pub AreAllAt : List Statement → List Mapping → List Name → Name → List Pattern → List Cond → Type 0
-AreAllAt g rows header x ps cs = ((p : Pattern) → In ps p ↔ IsCommonAt g rows x p) × ((c : Cond) → In cs c ↔ (IsCommonCondAt rows x c × IsInForm header c))
+abbrev pub AreAllAt : (level : Level) → List Statement → List Mapping → List Name → Name → List Pattern → List Cond → Type 0
+AreAllAt level g rows header x ps cs = ((p : Pattern) → In ps p ↔ IsCommonAt g rows x p) × ((c : Cond) → In cs c ↔ (IsCommonCondAt level rows x c × IsInForm header c))
 
 -- of a list, the elements of which something holds; without a decision it is not so that there is no such list
 sieve : {X : Type 0} (P : X → Type 0) (xs : List X) → ((ys : List X) → ((x : X) → In ys x ↔ (In xs x × P x)) → ⊥) → ⊥
@@ -80,9 +83,13 @@ value_conds : Name → Option Term → List Cond
 value_conds v None = []
 value_conds v (Some t) = conds.SameConst v t ∷ []
 
+-- the kind tests of a variable
+kind_conds : Name → List Cond
+kind_conds v = conds.KindOf kinds.Iri v ∷ conds.KindOf kinds.Blank v ∷ conds.KindOf kinds.Literal v ∷ []
+
 -- conditions over these variables that may hold of the mapping
 cond_shapes : List Name → Mapping → List Cond
-cond_shapes vs m = map conds.Bound vs ++ (flat_map (λ v. map (conds.SameVar v) vs) vs ++ flat_map (λ v. value_conds v (m v)) vs)
+cond_shapes vs m = map conds.Bound vs ++ (flat_map (λ v. map (conds.SameVar v) vs) vs ++ (flat_map (λ v. value_conds v (m v)) vs ++ flat_map kind_conds vs))
 
 -- a sameTerm that is true tells the value
 same_of : (o : Option Term) (t : Term) → same_value o (Some t) ≡ Some true → o ≡ Some t
@@ -95,6 +102,13 @@ unfolding value_conds
 value_in v None t e = cc
 value_in v (Some s) t e = inl (ap (conds.SameConst v) (some_same e))
 
+-- each kind test is there
+kind_in : (v : Name) (kind : Kind) → In (kind_conds v) (conds.KindOf kind v)
+unfolding kind_conds
+kind_in v kinds.Iri = inl refl
+kind_in v kinds.Blank = inr (inl refl)
+kind_in v kinds.Literal = inr (inr (inl refl))
+
 -- a condition over these variables that holds is one of the shapes
 cond_in : (vs : List Name) (m : Mapping) (c : Cond) → ((v : Name) → In (cond_vars c) v → In vs v) → Holds m c → In (cond_shapes vs m) c
 unfolding cond_shapes
@@ -104,15 +118,19 @@ cond_in vs m (conds.SameVar v w) inside h =
     (flat_in (λ v. map (conds.SameVar v) vs) vs v (conds.SameVar v w) (inside v (inl refl)) (in_map (conds.SameVar v) vs w (inside w (inr (inl refl))))))
 cond_in vs m (conds.SameConst v t) inside h =
     in_right (map conds.Bound vs) _ (conds.SameConst v t) (in_right (flat_map (λ v. map (conds.SameVar v) vs) vs) _ (conds.SameConst v t)
-    (flat_in (λ v. value_conds v (m v)) vs v (conds.SameConst v t) (inside v (inl refl)) (value_in v (m v) t (same_of (m v) t h))))
+    (in_left _ _ (conds.SameConst v t) (flat_in (λ v. value_conds v (m v)) vs v (conds.SameConst v t) (inside v (inl refl)) (value_in v (m v) t (same_of (m v) t h)))))
+cond_in vs m (conds.KindOf kind v) inside h =
+    in_right (map conds.Bound vs) _ (conds.KindOf kind v) (in_right (flat_map (λ v. map (conds.SameVar v) vs) vs) _ (conds.KindOf kind v)
+    (in_right (flat_map (λ v. value_conds v (m v)) vs) _ (conds.KindOf kind v)
+    (flat_in kind_conds vs v (conds.KindOf kind v) (inside v (inl refl)) (kind_in v kind))))
 
 -- it is not so that there are no such lists
-pub some_lists : (g : List Statement) (rows : List Mapping) (header : List Name) (x : Name) → IsSeen rows x → ((v : Name) → IsWithin rows x v → In header v)
-    → ((ps : List Pattern) (cs : List Cond) → AreAllAt g rows header x ps cs → ⊥) → ⊥
-some_lists g rows header x seen inside k =
+pub some_lists : (level : Level) → (g : List Statement) (rows : List Mapping) (header : List Name) (x : Name) → IsSeen rows x → ((v : Name) → IsWithin rows x v → In header v)
+    → ((ps : List Pattern) (cs : List Cond) → AreAllAt level g rows header x ps cs → ⊥) → ⊥
+some_lists level g rows header x seen inside k =
     let m = seen.0 in
     sieve (IsCommonAt g rows x) (flat_map (shapes header) g) (λ ps triples.
-    sieve (λ c. IsCommonCondAt rows x c × IsInForm header c) (cond_shapes header m) (λ cs conditions.
+    sieve (λ c. IsCommonCondAt level rows x c × IsInForm header c) (cond_shapes header m) (λ cs conditions.
     k ps cs (
       (λ p. (
         (λ h. ((triples p).0 h).1),

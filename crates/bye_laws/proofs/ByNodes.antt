@@ -1,4 +1,5 @@
 -- The wanted rows are answers of a query of the class with OPTIONAL groups exactly where each says of each node what it should.
+use Rattle.bye_pattern.specs.declared.level.Level.{Level}
 use Rattle.std.proofs.Common.{◌≡◌, refl, List, [], ◌++◌, ◌⊎◌, inl, inr, ⊎_elim, sym, ◌∙◌, subst, ◌↔◌}
 use Rattle.std.specs.List.{AllByRecursion}
 use Rattle.bye_terms.specs.Members.{In}
@@ -28,13 +29,13 @@ abbrev pub Answers : List Statement → Select → Mapping → Type 0
 Answers g q m = IsAnswer g q.vars (alg q) m
 
 -- the class of a query: as one relation of its tree, with a variable of each node, and with the nodes below one another
-pub once_designed : (rows : List Mapping) (q : Select) → InOptional rows q → IsTree [] [] q.tree
-once_designed rows q class = (at_once q.tree).0 class.designed
+pub once_designed : (level : Level) → (rows : List Mapping) (q : Select) → InOptional level rows q → IsTree [] [] q.tree
+once_designed level rows q class = (at_once q.tree).0 class.designed
 
 -- the class of a node, with the variables that are seen
-pub class_at : (rows : List Mapping) (q : Select) → InOptional rows q → (p : List Name) (u : Tree) → IsNode [] q.tree p u
+pub class_at : (level : Level) → (rows : List Mapping) (q : Select) → InOptional level rows q → (p : List Name) (u : Tree) → IsNode [] q.tree p u
     → (x : Name) × IsSeen rows x × ((v : Name) → IsNewAt p u v ↔ (IsSeen rows v × AreAlike rows x v))
-class_at rows q class p u k =
+class_at level rows q class p u k =
     let c = class.classes p u k in (
       c.0,
       c.1.0,
@@ -45,21 +46,21 @@ class_at rows q class p u k =
     )
 
 -- the nodes below one another, from above
-pub order_at : (rows : List Mapping) (q : Select) → InOptional rows q → (p : List Name) (u : Tree) (r : List Name) (t : Tree) (x y : Name) → IsNode [] q.tree p u → IsNode [] q.tree r t
+pub order_at : (level : Level) → (rows : List Mapping) (q : Select) → InOptional level rows q → (p : List Name) (u : Tree) (r : List Name) (t : Tree) (x y : Name) → IsNode [] q.tree p u → IsNode [] q.tree r t
     → IsNewAt p u x → IsNewAt r t y → IsAncestor u r t ↔ (IsWithin rows y x × (IsWithin rows x y → ⊥))
-order_at rows q class p u r t x y a b nx ny = class.order r t p u y x b a ny nx
+order_at level rows q class p u r t x y a b nx ny = class.order r t p u y x b a ny nx
 
 -- an answer is what is reached
-pub answer_reached : (g : List Statement) (q : Select) (rows : List Mapping) (m : Mapping) → InOptional rows q → Answers g q m → Reached g q.tree m × AllByRecursion (MeetsCond m) (own_conds q.tree)
-answer_reached g q rows m class (n, row, e) =
-    let r = row_reached g q n class.outer (once_designed rows q class) row in
+pub answer_reached : (level : Level) → (g : List Statement) (q : Select) (rows : List Mapping) (m : Mapping) → InOptional level rows q → Answers g q m → Reached g q.tree m × AllByRecursion (MeetsCond m) (own_conds q.tree)
+answer_reached level g q rows m class (n, row, e) =
+    let r = row_reached g q n class.outer (once_designed level rows q class) row in
     let same = restrict_within q.vars n (λ v h. (class.selects v).1 (reached_in n q.tree v (r.0.binds v h))) in
     subst (λ m. Reached g q.tree m × AllByRecursion (MeetsCond m) (own_conds q.tree)) (sym (e ∙ sym same)) r
 
 -- and what is reached is an answer
-pub reached_answer : (g : List Statement) (q : Select) (rows : List Mapping) (m : Mapping) → InOptional rows q → Reached g q.tree m → AllByRecursion (MeetsCond m) (own_conds q.tree) → Answers g q m
-reached_answer g q rows m class r conds =
-    (m, reached_row g q m class.outer (once_designed rows q class) r conds, restrict_within q.vars m (λ v h. (class.selects v).1 (reached_in m q.tree v (r.binds v h))))
+pub reached_answer : (level : Level) → (g : List Statement) (q : Select) (rows : List Mapping) (m : Mapping) → InOptional level rows q → Reached g q.tree m → AllByRecursion (MeetsCond m) (own_conds q.tree) → Answers g q m
+reached_answer level g q rows m class r conds =
+    (m, reached_row g q m class.outer (once_designed level rows q class) r conds, restrict_within q.vars m (λ v h. (class.selects v).1 (reached_in m q.tree v (r.binds v h))))
 
 -- places
 pub self_node : (p : List Name) (t : Tree) → IsNode p t p t
@@ -101,34 +102,34 @@ up_at : (rows : List Mapping) (m : Mapping) (x y : Name) → In rows m → IsWit
 up_at rows m x y h up = all_in (λ m. Binds m x → Binds m y) rows m up h
 
 -- a row that binds a variable below a node binds the node's new variables
-rise : (q : Select) (rows : List Mapping) (m : Mapping) → InOptional rows q → In rows m → (own : List Name) (t : Tree) → ((p : List Name) (u : Tree) → IsNode own t p u → IsNode [] q.tree p u)
+rise : (level : Level) → (q : Select) (rows : List Mapping) (m : Mapping) → InOptional level rows q → In rows m → (own : List Name) (t : Tree) → ((p : List Name) (u : Tree) → IsNode own t p u → IsNode [] q.tree p u)
     → (v : Name) → In (tree_vars t) v → (In own v → ⊥) → Binds m v → BindsNew m own t
-rise q rows m class row own t at v h out b w new =
+rise level q rows m class row own t at v h out b w new =
     let here = at own t (self_node own t) in
     ⊎_elim (λ k. absurd (out k))
     (λ k. ⊎_elim
     (λ e.
-    let x = class_at rows q class own t here in
+    let x = class_at level rows q class own t here in
     let a = ((x.2 v).0 (subst (λ p. IsNewAt p t v) e.0 (subst (λ u. IsNewAt k.0 u v) e.1 k.3))).1 in
     let c = ((x.2 w).0 new).1 in
     up_at rows m x.0 w row c.0 (up_at rows m v x.0 row a.1 b))
-    (λ below. up_at rows m v w row ((order_at rows q class own t k.0 k.1 w v here (at k.0 k.1 k.2) new k.3).0 below).0 b)
+    (λ below. up_at rows m v w row ((order_at level rows q class own t k.0 k.1 w v here (at k.0 k.1 k.2) new k.3).0 below).0 b)
     (node_cases own t k.0 k.1 k.2))
     (new_at own t v h)
 
 -- so each wanted row has such stairs
 mutual
-  stairs : (q : Select) (rows : List Mapping) (m : Mapping) → InOptional rows q → In rows m → (parent : List Name) (t : Tree)
+  stairs : (level : Level) → (q : Select) (rows : List Mapping) (m : Mapping) → InOptional level rows q → In rows m → (parent : List Name) (t : Tree)
       → ((p : List Name) (u : Tree) → IsNode parent t p u → IsNode [] q.tree p u) → Stairs m t
-  stairs q rows m class row parent (node ps cs f) at = stairs_in q rows m class row (all_vars ps) f (λ p u k. at p u (inr k))
+  stairs level q rows m class row parent (node ps cs f) at = stairs_in level q rows m class row (all_vars ps) f (λ p u k. at p u (inr k))
 
-  stairs_in : (q : Select) (rows : List Mapping) (m : Mapping) → InOptional rows q → In rows m → (own : List Name) (f : Forest)
+  stairs_in : (level : Level) → (q : Select) (rows : List Mapping) (m : Mapping) → InOptional level rows q → In rows m → (own : List Name) (f : Forest)
       → ((p : List Name) (u : Tree) → IsNodeIn own f p u → IsNode [] q.tree p u) → StairsIn m own f
-  stairs_in q rows m class row own leaf at = tt
-  stairs_in q rows m class row own (more t f) at = (
-    rise q rows m class row own t (λ p u k. at p u (inl k)),
-    stairs q rows m class row own t (λ p u k. at p u (inl k)),
-    stairs_in q rows m class row own f (λ p u k. at p u (inr k)),
+  stairs_in level q rows m class row own leaf at = tt
+  stairs_in level q rows m class row own (more t f) at = (
+    rise level q rows m class row own t (λ p u k. at p u (inl k)),
+    stairs level q rows m class row own t (λ p u k. at p u (inl k)),
+    stairs_in level q rows m class row own f (λ p u k. at p u (inr k)),
   )
 
 -- a node of which all variables are bound, as the row reaches it
@@ -164,30 +165,30 @@ mutual
       reached_at_in g m own (seen ++ tree_vars t) f d.1 (λ v h. in_left _ _ v (in_seen v h)) (λ p u k. news p u (inr k)) up below.1 steps.2 p u k new
 
 -- a variable that some row binds is one of the tree's
-pub covered_vars : (rows : List Mapping) (q : Select) → InOptional rows q → (v : Name) → IsSeen rows v → In (tree_vars q.tree) v
-covered_vars rows q class v s = let at = class.covers v s in node_vars [] q.tree at.0 at.1 v at.2 at.3.0
+pub covered_vars : (level : Level) → (rows : List Mapping) (q : Select) → InOptional level rows q → (v : Name) → IsSeen rows v → In (tree_vars q.tree) v
+covered_vars level rows q class v s = let at = class.covers v s in node_vars [] q.tree at.0 at.1 v at.2 at.3.0
 
 -- each node has a new variable
-some_new : (q : Select) (rows : List Mapping) → InOptional rows q → (p : List Name) (u : Tree) → IsNode [] q.tree p u → (x : Name) × IsNewAt p u x
-some_new q rows class p u k =
-    let x = class_at rows q class p u k in
+some_new : (level : Level) → (q : Select) (rows : List Mapping) → InOptional level rows q → (p : List Name) (u : Tree) → IsNode [] q.tree p u → (x : Name) × IsNewAt p u x
+some_new level q rows class p u k =
+    let x = class_at level rows q class p u k in
     let same = all_from (λ m. Binds m x.0 → Binds m x.0) rows (λ m h b. b) in
     (x.0, (x.2 x.0).1 (x.1, (same, same)))
 
 -- each wanted row binds the root's variables
-root_bound : (q : Select) (rows : List Mapping) (m : Mapping) → InOptional rows q → In rows m → BindsAll m q.tree
-root_bound q rows m class row v h = all_in (λ m. Binds m v) rows m (class.whole v h) row
+root_bound : (level : Level) → (q : Select) (rows : List Mapping) (m : Mapping) → InOptional level rows q → In rows m → BindsAll m q.tree
+root_bound level q rows m class row v h = all_in (λ m. Binds m v) rows m (class.whole v h) row
 
 -- what holds below the root
 root_below : (g : List Statement) (t : Tree) (m : Mapping) → Reached g t m → BelowTree g m t
 root_below g t m r = r.below
 
 -- an answer says of each node what it should
-pub answer_by_node : (g : List Statement) (q : Select) (rows : List Mapping) (m : Mapping) → InOptional rows q → In rows m → Answers g q m → ByNode g q.tree m
-answer_by_node g q rows m class row answer =
-    let r = answer_reached g q rows m class answer in
-    let here : At g m q.tree = record { all = root_bound q rows m class row; meets = (r.0.own, r.1); below = r.0.below } in
-    let at = reached_at g m [] [] q.tree (once_designed rows q class) (some_new q rows class) here (stairs q rows m class row [] q.tree (λ p u k. k)) in
+pub answer_by_node : (level : Level) → (g : List Statement) (q : Select) (rows : List Mapping) (m : Mapping) → InOptional level rows q → In rows m → Answers g q m → ByNode g q.tree m
+answer_by_node level g q rows m class row answer =
+    let r = answer_reached level g q rows m class answer in
+    let here : At g m q.tree = record { all = root_bound level q rows m class row; meets = (r.0.own, r.1); below = r.0.below } in
+    let at = reached_at g m [] [] q.tree (once_designed level rows q class) (some_new level q rows class) here (stairs level q rows m class row [] q.tree (λ p u k. k)) in
     record {
       meets = λ p u k new. (at p u k new).meets;
       none = λ p u c k child new shut.
@@ -241,20 +242,20 @@ mutual
   reached_bound_in m (more t f) v (inr h) = reached_bound_in m f v h
 
 -- a row that says of each node what it should is an answer
-pub by_node_answer : (g : List Statement) (q : Select) (rows : List Mapping) (m : Mapping) → InOptional rows q → In rows m → ByNode g q.tree m → Answers g q m
-by_node_answer g q rows m class row by =
-    let all = root_bound q rows m class row in
+pub by_node_answer : (level : Level) → (g : List Statement) (q : Select) (rows : List Mapping) (m : Mapping) → InOptional level rows q → In rows m → ByNode g q.tree m → Answers g q m
+by_node_answer level g q rows m class row by =
+    let all = root_bound level q rows m class row in
     let met = by.meets [] q.tree (self_node [] q.tree) (λ v h. all v h.0) in
-    reached_answer g q rows m class (record {
-      binds = λ v h. reaches m q.tree v all (stairs q rows m class row [] q.tree (λ p u k. k)) (covered_vars rows q class v (m, row, h)) h;
+    reached_answer level g q rows m class (record {
+      binds = λ v h. reaches m q.tree v all (stairs level q rows m class row [] q.tree (λ p u k. k)) (covered_vars level rows q class v (m, row, h)) h;
       bound = λ v h. reached_bound m q.tree v all h;
       own = met.0;
       below = below_from g q.tree m by [] q.tree (λ r u k. k) (λ v h. all v h.0) all;
     }) met.1
 
 -- the two together, for all rows
-pub by_nodes : (g : List Statement) (q : Select) (rows : List Mapping) → InOptional rows q → AllByRecursion (Answers g q) rows ↔ AllByRecursion (ByNode g q.tree) rows
-by_nodes g q rows class = (
-  λ h. all_from (ByNode g q.tree) rows (λ m k. answer_by_node g q rows m class k (all_in (Answers g q) rows m h k)),
-  λ h. all_from (Answers g q) rows (λ m k. by_node_answer g q rows m class k (all_in (ByNode g q.tree) rows m h k)),
+pub by_nodes : (level : Level) → (g : List Statement) (q : Select) (rows : List Mapping) → InOptional level rows q → AllByRecursion (Answers g q) rows ↔ AllByRecursion (ByNode g q.tree) rows
+by_nodes level g q rows class = (
+  λ h. all_from (ByNode g q.tree) rows (λ m k. answer_by_node level g q rows m class k (all_in (Answers g q) rows m h k)),
+  λ h. all_from (Answers g q) rows (λ m k. by_node_answer level g q rows m class k (all_in (ByNode g q.tree) rows m h k)),
 )

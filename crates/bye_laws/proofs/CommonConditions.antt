@@ -1,4 +1,5 @@
 -- Common conditions: one of a start node stands for each, and of two variables the first in the table stands first.
+use Rattle.bye_pattern.specs.declared.level.Level.{Level}
 use Rattle.std.proofs.Common.{◌≡◌, refl, Bool, true, false, List, Option, Some, None, inl, inr, ⊎_elim, sym, ◌∙◌, ap, ◌↔◌}
 use Rattle.bye_terms.specs.declared.term.Term.{Term}
 use Rattle.bye_terms.specs.Members.{In}
@@ -43,18 +44,19 @@ meets_sym v w m h = (
 )
 
 -- each common condition at x has one in form that says the same
-pub in_form : (vars : List Name) (rows : List Mapping) (x : Name) → ((v : Name) → IsWithin rows x v → In vars v) → (cs : List Cond)
-    → ((c : Cond) → In cs c ↔ (IsCommonCondAt rows x c × IsInForm vars c)) → (c : Cond) → IsCommonCondAt rows x c
+pub in_form : (level : Level) → (vars : List Name) (rows : List Mapping) (x : Name) → ((v : Name) → IsWithin rows x v → In vars v) → (cs : List Cond)
+    → ((c : Cond) → In cs c ↔ (IsCommonCondAt level rows x c × IsInForm vars c)) → (c : Cond) → IsCommonCondAt level rows x c
     → (d : Cond) × In cs d × ((m : Mapping) → MeetsCond m d → MeetsCond m c)
-in_form vars rows x inside cs same (conds.Bound v) common = (conds.Bound v, (same (conds.Bound v)).1 (common, tt), λ m h. h)
-in_form vars rows x inside cs same (conds.SameConst v t) common = (conds.SameConst v t, (same (conds.SameConst v t)).1 (common, tt), λ m h. h)
-in_form vars rows x inside cs same (conds.SameVar v w) common =
+in_form level vars rows x inside cs same (conds.Bound v) common = (conds.Bound v, (same (conds.Bound v)).1 (common, tt), λ m h. h)
+in_form level vars rows x inside cs same (conds.SameConst v t) common = (conds.SameConst v t, (same (conds.SameConst v t)).1 (common, tt), λ m h. h)
+in_form level vars rows x inside cs same (conds.KindOf kind v) common = (conds.KindOf kind v, (same (conds.KindOf kind v)).1 (common, tt), λ m h. h)
+in_form level vars rows x inside cs same (conds.SameVar v w) common =
     ⊎_elim
     (λ b. (conds.SameVar v w, (same (conds.SameVar v w)).1 (common, b), λ m h. h))
     (λ b. (conds.SameVar w v, (same (conds.SameVar w v)).1 (turned, b), λ m h. meets_sym w v m h))
     (before_or vars v w (inside v (common.over v (inl refl))) (inside w (common.over w (inr (inl refl)))) common.in_class)
   where
-    turned : IsCommonCondAt rows x (conds.SameVar w v)
+    turned : IsCommonCondAt level rows x (conds.SameVar w v)
     turned = record {
       in_class = λ e. common.in_class (sym e);
       over = λ u h. ⊎_elim (λ e. common.over u (inr (inl e))) (λ h. ⊎_elim (λ e. common.over u (inl e)) (λ n. absurd n) h) h;

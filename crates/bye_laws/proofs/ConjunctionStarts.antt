@@ -1,4 +1,5 @@
 -- The class of one conjunction: the start fits where any query does, each claim shows that none does, and the claims are enough.
+use Rattle.bye_pattern.specs.declared.level.Level.{Level}
 use Rattle.std.proofs.Common.{◌≡◌, refl, ℕ, ◌<◌, List, [], ◌⊎◌, inl, inr, ⊎_elim, sym, ◌∙◌, ap, subst, ◌↔◌}
 use Rattle.std.specs.List.{AllByRecursion}
 use Rattle.bye_terms.specs.Members.{EachOnce, In}
@@ -46,21 +47,21 @@ in_up : (rows : List Mapping) (x : Name) (vs : List Name) → HasOneDomain rows 
 in_up rows x vs one v h = all_from (λ m. Binds m x → Binds m v) rows (λ m row b. ((all_in (Exactly vs) rows m one.exact row) v).1 h)
 
 -- the start is a group of the class where its triples cover the domain
-start_group : (g : List Statement) (rows : List Mapping) (header : List Name) (x : Name) (vs : List Name) (ps : List Pattern) (cs : List Cond) → HasOneDomain rows x vs → AreAllAt g rows header x ps cs
-    → ((v : Name) → In vs v → In (all_vars ps) v) → IsGroupFor vs ps cs
-start_group g rows header x vs ps cs one all cover = record {
+start_group : (level : Level) → (g : List Statement) (rows : List Mapping) (header : List Name) (x : Name) (vs : List Name) (ps : List Pattern) (cs : List Cond) → HasOneDomain rows x vs → AreAllAt level g rows header x ps cs
+    → ((v : Name) → In vs v → In (all_vars ps) v) → IsGroupFor level vs ps cs
+start_group level g rows header x vs ps cs one all cover = record {
   some = (x, cover x (up_in rows x vs one x (within_self rows x)));
   safe = all_from (IsSafe [] ps) cs (λ c h v k. inl (cover v (up_in rows x vs one v (((all.1 c).0 h).0.over v k))));
   triples = all_from IsClassTriple ps (λ p h. ((all.0 p).0 h).in_class);
-  conditions = all_from IsClassCond cs (λ c h. ((all.1 c).0 h).0.in_class);
+  conditions = all_from (IsClassCond level) cs (λ c h. ((all.1 c).0 h).0.in_class);
   once = one.once;
   selects = λ v. (cover v, λ h. let w = in_all_vars ps v h in up_in rows x vs one v (((all.0 w.0).0 w.1).over v w.2));
 }
 
 -- each wanted row meets it
-start_meets : (g : List Statement) (rows : List Mapping) (header : List Name) (x : Name) (vs : List Name) (ps : List Pattern) (cs : List Cond) → HasOneDomain rows x vs → AreAllAt g rows header x ps cs
+start_meets : (level : Level) → (g : List Statement) (rows : List Mapping) (header : List Name) (x : Name) (vs : List Name) (ps : List Pattern) (cs : List Cond) → HasOneDomain rows x vs → AreAllAt level g rows header x ps cs
     → AllByRecursion (MeetsAll g (plain_select vs (node ps cs leaf))) rows
-start_meets g rows header x vs ps cs one all = all_from (MeetsAll g (plain_select vs (node ps cs leaf))) rows (λ m row.
+start_meets level g rows header x vs ps cs one all = all_from (MeetsAll g (plain_select vs (node ps cs leaf))) rows (λ m row.
     let b = all_in (λ m. Binds m x) rows m one.bound row in
     record {
       binds = all_in (Exactly vs) rows m one.exact row;
@@ -69,61 +70,61 @@ start_meets g rows header x vs ps cs one all = all_from (MeetsAll g (plain_selec
     })
 
 -- what meets the start meets whatever is common
-meets_common : (g : List Statement) (rows : List Mapping) (header : List Name) (x : Name) (vs : List Name) (ps : List Pattern) (cs : List Cond) → ((v : Name) → In vs v → In header v)
-    → HasOneDomain rows x vs → AreAllAt g rows header x ps cs → (m : Mapping) → MeetsAll g (plain_select vs (node ps cs leaf)) m
-    → ((p : Pattern) → IsCommonAt g rows x p → Meets g m p) × ((c : Cond) → IsCommonCondAt rows x c → MeetsCond m c)
-meets_common g rows header x vs ps cs inside one all m met = (
+meets_common : (level : Level) → (g : List Statement) (rows : List Mapping) (header : List Name) (x : Name) (vs : List Name) (ps : List Pattern) (cs : List Cond) → ((v : Name) → In vs v → In header v)
+    → HasOneDomain rows x vs → AreAllAt level g rows header x ps cs → (m : Mapping) → MeetsAll g (plain_select vs (node ps cs leaf)) m
+    → ((p : Pattern) → IsCommonAt g rows x p → Meets g m p) × ((c : Cond) → IsCommonCondAt level rows x c → MeetsCond m c)
+meets_common level g rows header x vs ps cs inside one all m met = (
   (λ p common. all_in (Meets g m) ps p met.triples ((all.0 p).1 common)),
   (λ c common.
-      let d = in_form header rows x (λ v up. inside v (up_in rows x vs one v up)) cs all.1 c common in
+      let d = in_form level header rows x (λ v up. inside v (up_in rows x vs one v up)) cs all.1 c common in
       d.2 m (all_in (MeetsCond m) cs d.0 met.conds d.1)),
 )
 
 -- where any query fits, the start is right
-start_right : (g : List Statement) (rows unwanted : List Mapping) (header : List Name) (x : Name) (vs : List Name) (ps : List Pattern) (cs : List Cond) → ((v : Name) → In vs v → In header v)
-    → HasOneDomain rows x vs → AreAllAt g rows header x ps cs → (q : Select) → InAnd q → Fits g rows unwanted q → IsRight And g rows unwanted (plain_select vs (node ps cs leaf))
-start_right g rows unwanted header x vs ps cs inside one all q class fits =
-    let first = each_meets g rows q class fits.all one.seen.0 one.seen.1 in
+start_right : (level : Level) → (g : List Statement) (rows unwanted : List Mapping) (header : List Name) (x : Name) (vs : List Name) (ps : List Pattern) (cs : List Cond) → ((v : Name) → In vs v → In header v)
+    → HasOneDomain rows x vs → AreAllAt level g rows header x ps cs → (q : Select) → InAnd level q → Fits g rows unwanted q → IsRight And level g rows unwanted (plain_select vs (node ps cs leaf))
+start_right level g rows unwanted header x vs ps cs inside one all q class fits =
+    let first = each_meets level g rows q class fits.all one.seen.0 one.seen.1 in
     let same : (v : Name) → In vs v ↔ In q.vars v = λ v. (
       (λ h. (first.binds v).0 (((all_in (Exactly vs) rows one.seen.0 one.exact one.seen.1) v).1 h)),
       (λ h. ((all_in (Exactly vs) rows one.seen.0 one.exact one.seen.1) v).0 ((first.binds v).1 h)),
     ) in
-    let group = start_group g rows header x vs ps cs one all (λ v h.
-    let w = row_var g rows q class fits.all v (one.seen.0, one.seen.1, (first.binds v).1 ((same v).0 h)) in
-    all_vars_in ps w.0 v ((all.0 w.0).1 (triple_common g rows q class fits.all x w.0 w.1)) w.2) in
-    let of_class = of_group vs ps cs group in
+    let group = start_group level g rows header x vs ps cs one all (λ v h.
+    let w = row_var level g rows q class fits.all v (one.seen.0, one.seen.1, (first.binds v).1 ((same v).0 h)) in
+    all_vars_in ps w.0 v ((all.0 w.0).1 (triple_common level g rows q class fits.all x w.0 w.1)) w.2) in
+    let of_class = of_group level vs ps cs group in
     record {
       in_class = of_class;
-      fits = meets_fits g rows unwanted (plain_select vs (node ps cs leaf)) of_class (
-        start_meets g rows header x vs ps cs one all,
+      fits = meets_fits level g rows unwanted (plain_select vs (node ps cs leaf)) of_class (
+        start_meets level g rows header x vs ps cs one all,
         all_from (λ m. MeetsAll g (plain_select vs (node ps cs leaf)) m → ⊥) unwanted (λ m row met.
-            let common = meets_common g rows header x vs ps cs inside one all m met in
-            all_in (λ m. IsAnswer g q.vars (alg q) m → ⊥) unwanted m fits.none row (meets_answer g q m class (record {
+            let common = meets_common level g rows header x vs ps cs inside one all m met in
+            all_in (λ m. IsAnswer g q.vars (alg q) m → ⊥) unwanted m fits.none row (meets_answer level g q m class (record {
               binds = λ v. ((λ h. (same v).0 ((met.binds v).0 h)), (λ h. (met.binds v).1 ((same v).1 h)));
-              triples = all_from (Meets g m) (own_triples q.tree) (λ p h. common.0 p (triple_common g rows q class fits.all x p h));
-              conds = all_from (MeetsCond m) (own_conds q.tree) (λ c h. common.1 c (condition_common g rows q class fits.all x c h));
+              triples = all_from (Meets g m) (own_triples q.tree) (λ p h. common.0 p (triple_common level g rows q class fits.all x p h));
+              conds = all_from (MeetsCond m) (own_conds q.tree) (λ c h. common.1 c (condition_common level g rows q class fits.all x c h));
             }))),
       );
     }
 
 -- where no variable is uncovered and no unwanted row is admitted, the start is right
-start_enough : (g : List Statement) (rows unwanted : List Mapping) (header : List Name) (x : Name) (vs : List Name) (ps : List Pattern) (cs : List Cond) → ((v : Name) → In vs v → In header v)
-    → HasOneDomain rows x vs → AreAllAt g rows header x ps cs → ((v : Name) → ShowsUncovered g rows v → ⊥) → ((j : ℕ) → ShowsAdmitted g rows unwanted j → ⊥)
-    → IsRight And g rows unwanted (plain_select vs (node ps cs leaf))
-start_enough g rows unwanted header x vs ps cs inside one all covered admitted =
+start_enough : (level : Level) → (g : List Statement) (rows unwanted : List Mapping) (header : List Name) (x : Name) (vs : List Name) (ps : List Pattern) (cs : List Cond) → ((v : Name) → In vs v → In header v)
+    → HasOneDomain rows x vs → AreAllAt level g rows header x ps cs → ((v : Name) → ShowsUncovered g rows v → ⊥) → ((j : ℕ) → ShowsAdmitted level g rows unwanted j → ⊥)
+    → IsRight And level g rows unwanted (plain_select vs (node ps cs leaf))
+start_enough level g rows unwanted header x vs ps cs inside one all covered admitted =
     let row_binds : (v : Name) → In vs v → Binds one.seen.0 v = λ v h. ((all_in (Exactly vs) rows one.seen.0 one.exact one.seen.1) v).1 h in
-    let group = start_group g rows header x vs ps cs one all (λ v h.
+    let group = start_group level g rows header x vs ps cs one all (λ v h.
     ⊎_elim (λ k. k) (λ out. absurd (covered v (record {
       seen = (one.seen.0, one.seen.1, row_binds v h);
       none = λ p common k. out (all_vars_in ps p v ((all.0 p).1 (lower g rows x v p (in_up rows x vs one v h) common)) k);
     }))) (in_or_not (all_vars ps) v)) in
-    let of_class = of_group vs ps cs group in
+    let of_class = of_group level vs ps cs group in
     record {
       in_class = of_class;
-      fits = meets_fits g rows unwanted (plain_select vs (node ps cs leaf)) of_class (
-        start_meets g rows header x vs ps cs one all,
+      fits = meets_fits level g rows unwanted (plain_select vs (node ps cs leaf)) of_class (
+        start_meets level g rows header x vs ps cs one all,
         all_from (λ m. MeetsAll g (plain_select vs (node ps cs leaf)) m → ⊥) unwanted (λ m row met.
-            let common = meets_common g rows header x vs ps cs inside one all m met in
+            let common = meets_common level g rows header x vs ps cs inside one all m met in
             let at = in_at unwanted m row in
             admitted at.0 (record {
               domain = vs;
@@ -146,30 +147,30 @@ start_enough g rows unwanted header x vs ps cs inside one all covered admitted =
     }
 
 -- each claim shows that no query fits
-domains_none : (g : List Statement) (rows unwanted : List Mapping) (i j : ℕ) (x : Name) → ShowsDomains rows i j x → NoFit InAnd g rows unwanted
-domains_none g rows unwanted i j x claim q class fits =
-    let one = each_meets g rows q class fits.all claim.one (at_in rows i claim.one claim.one_row) in
-    let other = each_meets g rows q class fits.all claim.other (at_in rows j claim.other claim.other_row) in
+domains_none : (level : Level) → (g : List Statement) (rows unwanted : List Mapping) (i j : ℕ) (x : Name) → ShowsDomains rows i j x → NoFit (InAnd level) g rows unwanted
+domains_none level g rows unwanted i j x claim q class fits =
+    let one = each_meets level g rows q class fits.all claim.one (at_in rows i claim.one claim.one_row) in
+    let other = each_meets level g rows q class fits.all claim.other (at_in rows j claim.other claim.other_row) in
     ⊎_elim (λ h. h.1 ((other.binds x).1 ((one.binds x).0 h.0))) (λ h. h.0 ((one.binds x).1 ((other.binds x).0 h.1))) claim.binds
 
 -- no variable is bound in all rows
-noroot_none : (g : List Statement) (rows unwanted : List Mapping) → ShowsNoRoot rows → NoFit InAnd g rows unwanted
-noroot_none g rows unwanted never q class fits =
-    let some = (group_of q class).some in
-    never some.0 (all_from (λ m. Binds m some.0) rows (λ m row. ((each_meets g rows q class fits.all m row).binds some.0).1 ((class.selects some.0).1 some.1)))
+noroot_none : (level : Level) → (g : List Statement) (rows unwanted : List Mapping) → ShowsNoRoot rows → NoFit (InAnd level) g rows unwanted
+noroot_none level g rows unwanted never q class fits =
+    let some = (group_of level q class).some in
+    never some.0 (all_from (λ m. Binds m some.0) rows (λ m row. ((each_meets level g rows q class fits.all m row).binds some.0).1 ((class.selects some.0).1 some.1)))
 
 -- a variable is in no common pattern
-uncovered_none : (g : List Statement) (rows unwanted : List Mapping) (x : Name) → ShowsUncovered g rows x → NoFit InAnd g rows unwanted
-uncovered_none g rows unwanted x claim q class fits =
-    let w = row_var g rows q class fits.all x claim.seen in claim.none w.0 (triple_common g rows q class fits.all x w.0 w.1) w.2
+uncovered_none : (level : Level) → (g : List Statement) (rows unwanted : List Mapping) (x : Name) → ShowsUncovered g rows x → NoFit (InAnd level) g rows unwanted
+uncovered_none level g rows unwanted x claim q class fits =
+    let w = row_var level g rows q class fits.all x claim.seen in claim.none w.0 (triple_common level g rows q class fits.all x w.0 w.1) w.2
 
 -- an unwanted row meets all that is common
-admitted_none : (g : List Statement) (rows unwanted : List Mapping) (j : ℕ) → (rows ≡ [] → ⊥) → ShowsAdmitted g rows unwanted j → NoFit InAnd g rows unwanted
-admitted_none g rows unwanted j some claim q class fits =
+admitted_none : (level : Level) → (g : List Statement) (rows unwanted : List Mapping) (j : ℕ) → (rows ≡ [] → ⊥) → ShowsAdmitted level g rows unwanted j → NoFit (InAnd level) g rows unwanted
+admitted_none level g rows unwanted j some claim q class fits =
     let w = some_row rows some in
-    let met = each_meets g rows q class fits.all in
+    let met = each_meets level g rows q class fits.all in
     let domain = all_in (Exactly claim.domain) rows w.0 claim.same w.1 in
-    all_in (λ m. IsAnswer g q.vars (alg q) m → ⊥) unwanted claim.row fits.none (at_in unwanted j claim.row claim.row_at) (meets_answer g q claim.row class (record {
+    all_in (λ m. IsAnswer g q.vars (alg q) m → ⊥) unwanted claim.row fits.none (at_in unwanted j claim.row claim.row_at) (meets_answer level g q claim.row class (record {
       binds = λ v. (
         (λ h. ((met w.0 w.1).binds v).0 ((domain v).1 ((claim.of_row v).0 h))),
         (λ h. (claim.of_row v).1 ((domain v).0 (((met w.0 w.1).binds v).1 h))),
@@ -180,20 +181,20 @@ admitted_none g rows unwanted j some claim q class fits =
         holds = all_from (λ m. Meets g m p) rows (λ m row. all_in (Meets g m) (own_triples q.tree) p (met m row).triples h);
       }));
       conds = all_from (MeetsCond claim.row) (own_conds q.tree) (λ c h. claim.conditions c (record {
-        in_class = all_in IsClassCond (own_conds q.tree) c class.conds h;
+        in_class = all_in (IsClassCond level) (own_conds q.tree) c class.conds h;
         over = λ v k. (domain v).0 ((all_in (MeetsCond w.0) (own_conds q.tree) c (met w.0 w.1).conds h).0 v k);
         holds = all_from (λ m. MeetsCond m c) rows (λ m row. all_in (MeetsCond m) (own_conds q.tree) c (met m row).conds h);
       }));
     }))
 
 -- so each claim of the class
-pub conjunction_claims : (g : List Statement) (w : Wanted) (unwanted : List Mapping) (claim : Claim) → AreExamples w → GoesWith And claim → IsShown g w.rows unwanted claim → NoFit InAnd g w.rows unwanted
-conjunction_claims g w unwanted (Domains i j x) examples goes shown = domains_none g w.rows unwanted i j x shown
-conjunction_claims g w unwanted NoRoot examples goes shown = noroot_none g w.rows unwanted shown
-conjunction_claims g w unwanted (Fork x y z) examples goes shown = absurd goes
-conjunction_claims g w unwanted (Uncovered x) examples goes shown = uncovered_none g w.rows unwanted x shown
-conjunction_claims g w unwanted (Admitted j) examples goes shown = admitted_none g w.rows unwanted j examples.some shown
-conjunction_claims g w unwanted (Extension i x values) examples goes shown = absurd goes
+pub conjunction_claims : (level : Level) → (g : List Statement) (w : Wanted) (unwanted : List Mapping) (claim : Claim) → AreExamples w → GoesWith And claim → IsShown level g w.rows unwanted claim → NoFit (InAnd level) g w.rows unwanted
+conjunction_claims level g w unwanted (Domains i j x) examples goes shown = domains_none level g w.rows unwanted i j x shown
+conjunction_claims level g w unwanted NoRoot examples goes shown = noroot_none level g w.rows unwanted shown
+conjunction_claims level g w unwanted (Fork x y z) examples goes shown = absurd goes
+conjunction_claims level g w unwanted (Uncovered x) examples goes shown = uncovered_none level g w.rows unwanted x shown
+conjunction_claims level g w unwanted (Admitted j) examples goes shown = admitted_none level g w.rows unwanted j examples.some shown
+conjunction_claims level g w unwanted (Extension i x values) examples goes shown = absurd goes
 
 -- two rows of which one binds a variable and the other does not stand at two numbers
 number_of : (rows : List Mapping) (i j : ℕ) (m n : Mapping) (x : Name) → IsRowAt rows i m → IsRowAt rows j n → Binds m x → (Binds n x → ⊥)
@@ -234,45 +235,45 @@ has_one_domain w examples x bound same =
     }
 
 -- where no query fits, it is not so that no certificate shows it
-pub conjunction_enough : (g : List Statement) (w : Wanted) (unwanted : List Mapping) → AreExamples w → NoFit InAnd g w.rows unwanted
-    → ((c : CertificateValue) → c.class ≡ And → Shows g w.rows unwanted c → ⊥) → ⊥
-conjunction_enough g w unwanted examples nofit never =
-    never (record { class = And; claim = NoRoot }) refl (record {
+pub conjunction_enough : (level : Level) → (g : List Statement) (w : Wanted) (unwanted : List Mapping) → AreExamples w → NoFit (InAnd level) g w.rows unwanted
+    → ((c : CertificateValue) → c.class ≡ And → c.level ≡ level → Shows g w.rows unwanted c → ⊥) → ⊥
+conjunction_enough level g w unwanted examples nofit never =
+    never (record { level = level; class = And; claim = NoRoot }) refl refl (record {
       goes = tt;
       shown = λ x bound.
-          let one = has_one_domain w examples x bound (one_domain g w.rows unwanted (λ i j v claim. never (record { class = And; claim = Domains i j v }) refl (record { goes = tt; shown = claim }))) in
+          let one = has_one_domain w examples x bound (one_domain g w.rows unwanted (λ i j v claim. never (record { level = level; class = And; claim = Domains i j v }) refl refl (record { goes = tt; shown = claim }))) in
           let vs = (seen_list w.rows w.vars).0 in
-          some_lists g w.rows w.vars x one.seen (λ v up. examples.within v (seen_up w.rows x v one.seen up)) (λ ps cs all.
-          let right = start_enough g w.rows unwanted w.vars x vs ps cs (λ v h. (seen_in w.rows w.vars vs (seen_list w.rows w.vars).1 v h).0) one all
-          (λ v claim. never (record { class = And; claim = Uncovered v }) refl (record { goes = tt; shown = claim }))
-          (λ j claim. never (record { class = And; claim = Admitted j }) refl (record { goes = tt; shown = claim })) in
+          some_lists level g w.rows w.vars x one.seen (λ v up. examples.within v (seen_up w.rows x v one.seen up)) (λ ps cs all.
+          let right = start_enough level g w.rows unwanted w.vars x vs ps cs (λ v h. (seen_in w.rows w.vars vs (seen_list w.rows w.vars).1 v h).0) one all
+          (λ v claim. never (record { level = level; class = And; claim = Uncovered v }) refl refl (record { goes = tt; shown = claim }))
+          (λ j claim. never (record { level = level; class = And; claim = Admitted j }) refl refl (record { goes = tt; shown = claim })) in
           nofit (plain_select vs (node ps cs leaf)) right.in_class right.fits);
     })
 
 -- the parts of a start of the class
-pub record ConjunctionStart (g : List Statement) (w : Wanted) (start : Select) : Type 0 where
+pub record ConjunctionStart (level : Level) (g : List Statement) (w : Wanted) (start : Select) : Type 0 where
   pub x : Name
   pub vs : List Name
   pub ps : List Pattern
   pub cs : List Cond
   pub inside : (v : Name) → In vs v → In w.vars v
   pub one : HasOneDomain w.rows x vs
-  pub all : AreAllAt g w.rows w.vars x ps cs
+  pub all : AreAllAt level g w.rows w.vars x ps cs
   pub is : start ≡ plain_select vs (node ps cs leaf)
 
 -- a start over one domain is one group
-lone_start : (g : List Statement) (w : Wanted) (x : Name) (t : Tree) → IsStartTree g w (domain x none) t → (ps : List Pattern) × (cs : List Cond) × IsStartNode g w x ps cs × (t ≡ node ps cs leaf)
-lone_start g w x (node ps cs leaf) (here, below) = (ps, cs, here, refl)
-lone_start g w x (node ps cs (more t f)) (here, below) = absurd below
+lone_start : (level : Level) → (g : List Statement) (w : Wanted) (x : Name) (t : Tree) → IsStartTree level g w (domain x none) t → (ps : List Pattern) × (cs : List Cond) × IsStartNode level g w x ps cs × (t ≡ node ps cs leaf)
+lone_start level g w x (node ps cs leaf) (here, below) = (ps, cs, here, refl)
+lone_start level g w x (node ps cs (more t f)) (here, below) = absurd below
 
 -- each start has these parts
-pub start_parts : (g : List Statement) (w : Wanted) (start : Select) → AreExamples w → IsStart And g w start → ConjunctionStart g w start
-start_parts g w start examples is = parts is.domains is.allowed is.over is.conjuncts
+pub start_parts : (level : Level) → (g : List Statement) (w : Wanted) (start : Select) → AreExamples w → IsStart And level g w start → ConjunctionStart level g w start
+start_parts level g w start examples is = parts is.domains is.allowed is.over is.conjuncts
   where
-    parts : (d : Domain) → HasDomains And d → IsDomainTree w d → IsStartTree g w d is.tree → ConjunctionStart g w start
+    parts : (d : Domain) → HasDomains And d → IsDomainTree w d → IsStartTree level g w d is.tree → ConjunctionStart level g w start
     parts (domain x ds) alone tree conjuncts =
         let over : IsDomainTree w (domain x none) = subst (λ ds. IsDomainTree w (domain x ds)) alone tree in
-        let t = lone_start g w x is.tree (subst (λ ds. IsStartTree g w (domain x ds) is.tree) alone conjuncts) in
+        let t = lone_start level g w x is.tree (subst (λ ds. IsStartTree level g w (domain x ds) is.tree) alone conjuncts) in
         let some = some_row w.rows examples.some in
         let alike : (v : Name) → IsSeen w.rows v → IsWithin w.rows x v = λ v s. let k = over.covers v s in ⊎_elim (λ e. subst (λ y. IsWithin w.rows y v) (sym e) k.2.0) (λ n. absurd n) k.1 in
         record {
@@ -295,8 +296,8 @@ start_parts g w start examples is = parts is.domains is.allowed is.over is.conju
         }
 
 -- and is right where any query is
-pub conjunction_start_right : (g : List Statement) (w : Wanted) (unwanted : List Mapping) (start q : Select) → AreExamples w → IsStart And g w start → IsRight And g w.rows unwanted q
-    → IsRight And g w.rows unwanted start
-conjunction_start_right g w unwanted start q examples is right =
-    let p = start_parts g w start examples is in
-    subst (IsRight And g w.rows unwanted) (sym p.is) (start_right g w.rows unwanted w.vars p.x p.vs p.ps p.cs p.inside p.one p.all q right.in_class right.fits)
+pub conjunction_start_right : (level : Level) → (g : List Statement) (w : Wanted) (unwanted : List Mapping) (start q : Select) → AreExamples w → IsStart And level g w start → IsRight And level g w.rows unwanted q
+    → IsRight And level g w.rows unwanted start
+conjunction_start_right level g w unwanted start q examples is right =
+    let p = start_parts level g w start examples is in
+    subst (IsRight And level g w.rows unwanted) (sym p.is) (start_right level g w.rows unwanted w.vars p.x p.vs p.ps p.cs p.inside p.one p.all q right.in_class right.fits)

@@ -1,4 +1,5 @@
 -- A fork lets no query of the class with OPTIONAL groups fit.
+use Rattle.bye_pattern.specs.declared.level.Level.{Level}
 use Rattle.std.proofs.Common.{◌≡◌, List, [], ◌++◌, ◌⊎◌, inl, inr, ⊎_elim, sym, ◌∙◌, subst}
 use Rattle.bye_terms.specs.Terms.{Statement}
 use Rattle.bye_terms.proofs.Members.{in_right}
@@ -44,23 +45,23 @@ mutual
       absurd (n.1 (fresh_in parent (seen ++ tree_vars t) f d.1 r w x (deeper_in parent f p u r w a h) n.0 (in_right seen _ x (node_vars parent t r w x (deeper parent t q v r w b k) n.0))))
 
 -- so the two domains around the fork's variable would be comparable
-pub fork_none : (g : List Statement) (rows unwanted : List Mapping) (x y z : Name) → ShowsFork rows x y z → NoFit (InOptional rows) g rows unwanted
-fork_none g rows unwanted x y z claim q class fits =
+pub fork_none : (level : Level) → (g : List Statement) (rows unwanted : List Mapping) (x y z : Name) → ShowsFork rows x y z → NoFit (InOptional level rows) g rows unwanted
+fork_none level g rows unwanted x y z claim q class fits =
     let a = class.covers x claim.seen in
     let b = class.covers y (seen_up rows x y claim.seen claim.first) in
     let c = class.covers z (seen_up rows x z claim.seen claim.second) in
     ⊎_elim (λ up. claim.first_apart (within_trans rows y x z up claim.second))
     (λ y_shut. ⊎_elim (λ up. claim.second_apart (within_trans rows z x y up claim.first))
     (λ z_shut.
-    let above_y = (order_at rows q class b.0 b.1 a.0 a.1 y x b.2 a.2 b.3 a.3).1 (claim.first, y_shut) in
-    let above_z = (order_at rows q class c.0 c.1 a.0 a.1 z x c.2 a.2 c.3 a.3).1 (claim.second, z_shut) in
+    let above_y = (order_at level rows q class b.0 b.1 a.0 a.1 y x b.2 a.2 b.3 a.3).1 (claim.first, y_shut) in
+    let above_z = (order_at level rows q class c.0 c.1 a.0 a.1 z x c.2 a.2 c.3 a.3).1 (claim.second, z_shut) in
     ⊎_elim
     (λ same.
     let k = class.classes b.0 b.1 b.2 in
     let l = (k.1.1 y).0 b.3 in
     let r = (k.1.1 z).0 (subst (λ u. IsNewAt b.0 u z) (sym same.1) (subst (λ p. IsNewAt p c.1 z) (sym same.0) c.3)) in
     claim.first_apart (within_trans rows y k.0 z l.1 r.0))
-    (λ h. ⊎_elim (λ below. claim.second_apart ((order_at rows q class b.0 b.1 c.0 c.1 y z b.2 c.2 b.3 c.3).0 below).0)
-    (λ below. claim.first_apart ((order_at rows q class c.0 c.1 b.0 b.1 z y c.2 b.2 c.3 b.3).0 below).0) h)
-    (chain [] [] q.tree (once_designed rows q class) b.0 b.1 c.0 c.1 a.0 a.1 x a.3 b.2 c.2 above_y above_z))
+    (λ h. ⊎_elim (λ below. claim.second_apart ((order_at level rows q class b.0 b.1 c.0 c.1 y z b.2 c.2 b.3 c.3).0 below).0)
+    (λ below. claim.first_apart ((order_at level rows q class c.0 c.1 b.0 b.1 z y c.2 b.2 c.3 b.3).0 below).0) h)
+    (chain [] [] q.tree (once_designed level rows q class) b.0 b.1 c.0 c.1 a.0 a.1 x a.3 b.2 c.2 above_y above_z))
     (within_or_not rows z x)) (within_or_not rows y x)

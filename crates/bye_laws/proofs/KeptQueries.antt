@@ -1,4 +1,5 @@
 -- What is kept is one query, and of a start that is right it is right and minimal.
+use Rattle.bye_pattern.specs.declared.level.Level.{Level}
 use Rattle.std.proofs.Common.{◌≡◌, refl, true, List, [], ◌∷◌, ◌⊎◌, inl, inr, ⊎_elim, sym, ◌∙◌, ap, subst, ◌↔◌}
 use Rattle.std.specs.List.{AllByRecursion}
 use Rattle.std.specs.Ordering.{is_lt}
@@ -8,6 +9,8 @@ use Rattle.bye_terms.proofs.Members.{all_in}
 use Rattle.bye_terms.proofs.Tests.{not_both}
 use Rattle.bye_pattern.specs.declared.class.Class.{Class}
 use Rattle.bye_pattern.specs.declared.class.Class.TheVariants.{And, Optional}
+use Rattle.bye_pattern.specs.declared.kind.Kind.{Kind}
+use Rattle.bye_pattern.specs.declared.kind.Kind.TheVariants as kinds
 use Rattle.bye_pattern.specs.declared.cond.Cond.{Cond}
 use Rattle.bye_pattern.specs.Conjuncts.{Drops}
 use Rattle.bye_table.specs.Domains.{IsBefore, Wanted}
@@ -15,7 +18,7 @@ use Rattle.bye_pattern.specs.Keeping.{IsKept, IsMinimal, IsRight, IsStart, IsThi
 use Rattle.bye_table.specs.Mappings.{Mapping, Name}
 use Rattle.bye_pattern.specs.Patterns.{Pattern}
 use Rattle.bye_table.specs.DomainTrees.{Domain, Subdomains, also, domain, none}
-use Rattle.bye_pattern.specs.Starting.{AreInTrialOrder, IsStartForest, IsStartNode, IsStartTree, IsTriedBefore}
+use Rattle.bye_pattern.specs.Starting.{AreInTrialOrder, IsKindBefore, IsStartForest, IsStartNode, IsStartTree, IsTriedBefore}
 use Rattle.bye_pattern.specs.Trees.{Forest, Select, Tree, leaf, more, node, plain_select}
 use Rattle.bye_pattern.specs.TrialOrder.{IsInStrictOrder, trial_cmp}
 use Rattle.bye_pattern.proofs.Orders.{trial_weak}
@@ -73,11 +76,24 @@ pub tried_in_order : (header : List Name) (cs : List Cond) → AreInTrialOrder h
 tried_in_order header [] h = tt
 tried_in_order header (c ∷ cs) h = (h.0, tried_in_order header cs h.1)
 
+-- of two kinds not both stand before the other
+kinds_apart : (j k : Kind) → IsKindBefore j k → IsKindBefore k j → ⊥
+kinds_apart kinds.Iri kinds.Iri a b = a
+kinds_apart kinds.Iri kinds.Blank a b = b
+kinds_apart kinds.Iri kinds.Literal a b = b
+kinds_apart kinds.Blank kinds.Iri a b = a
+kinds_apart kinds.Blank kinds.Blank a b = a
+kinds_apart kinds.Blank kinds.Literal a b = b
+kinds_apart kinds.Literal kinds.Iri a b = a
+kinds_apart kinds.Literal kinds.Blank a b = a
+kinds_apart kinds.Literal kinds.Literal a b = a
+
 -- of two conditions not both stand before the other
 pub conditions_apart : (header : List Name) → EachOnce header → (c d : Cond) → IsTriedBefore header c d → IsTriedBefore header d c → ⊥
 conditions_apart header once (conds.Bound v) (conds.Bound w) a b = not_both_before header v w once a b
 conditions_apart header once (conds.Bound v) (conds.SameVar w x) a b = b
 conditions_apart header once (conds.Bound v) (conds.SameConst w t) a b = b
+conditions_apart header once (conds.Bound v) (conds.KindOf kind w) a b = b
 conditions_apart header once (conds.SameVar v w) (conds.Bound x) a b = a
 conditions_apart header once (conds.SameVar v w) (conds.SameVar x y) a b =
     ⊎_elim
@@ -88,13 +104,26 @@ conditions_apart header once (conds.SameVar v w) (conds.SameVar x y) a b =
     not_self : (u : Name) → IsBefore header u u → ⊥
     not_self u h = not_both_before header u u once h h
 conditions_apart header once (conds.SameVar v w) (conds.SameConst x t) a b = b
+conditions_apart header once (conds.SameVar v w) (conds.KindOf kind x) a b = b
 conditions_apart header once (conds.SameConst v t) (conds.Bound w) a b = a
 conditions_apart header once (conds.SameConst v t) (conds.SameVar w x) a b = a
 conditions_apart header once (conds.SameConst v t) (conds.SameConst w u) a b = not_both_before header v w once a b
+conditions_apart header once (conds.SameConst v t) (conds.KindOf kind w) a b = b
+conditions_apart header once (conds.KindOf kind v) (conds.Bound w) a b = a
+conditions_apart header once (conds.KindOf kind v) (conds.SameVar w x) a b = a
+conditions_apart header once (conds.KindOf kind v) (conds.SameConst w t) a b = a
+conditions_apart header once (conds.KindOf kind v) (conds.KindOf other w) a b =
+    ⊎_elim
+    (λ i. ⊎_elim (λ j. not_both_before header v w once i j) (λ j. not_self v (subst (IsBefore header v) j.0 i)) b)
+    (λ i. ⊎_elim (λ j. not_self w (subst (IsBefore header w) i.0 j)) (λ j. kinds_apart kind other i.1 j.1) b)
+    a
+  where
+    not_self : (u : Name) → IsBefore header u u → ⊥
+    not_self u h = not_both_before header u u once h h
 
 -- the lists of a start node are told by their elements
-one_node : (g : List Statement) (w : Wanted) (x : Name) (ps qs : List Pattern) (cs ds : List Cond) → EachOnce w.vars → IsStartNode g w x ps cs → IsStartNode g w x qs ds → (ps ≡ qs) × (cs ≡ ds)
-one_node g w x ps qs cs ds once a b = (
+one_node : (level : Level) → (g : List Statement) (w : Wanted) (x : Name) (ps qs : List Pattern) (cs ds : List Cond) → EachOnce w.vars → IsStartNode level g w x ps cs → IsStartNode level g w x qs ds → (ps ≡ qs) × (cs ≡ ds)
+one_node level g w x ps qs cs ds once a b = (
   sorted_same (λ p q. is_lt (trial_cmp p q) ≡ true) patterns_apart ps qs (tried_strictly ps a.sorted) (tried_strictly qs b.sorted)
       (λ p. ((λ h. (b.triples p).1 ((a.triples p).0 h)), (λ h. (a.triples p).1 ((b.triples p).0 h)))),
   sorted_same (IsTriedBefore w.vars) (conditions_apart w.vars once) cs ds (tried_in_order w.vars cs a.conditions_sorted) (tried_in_order w.vars ds b.conditions_sorted)
@@ -103,62 +132,62 @@ one_node g w x ps qs cs ds once a b = (
 
 -- over one tree of domains there is one start tree
 mutual
-  one_start_tree : (g : List Statement) (w : Wanted) (d : Domain) (t u : Tree) → EachOnce w.vars → IsStartTree g w d t → IsStartTree g w d u → t ≡ u
-  one_start_tree g w (domain x ds) (node ps cs f) (node qs es e) once a b =
-      let lists = one_node g w x ps qs cs es once a.0 b.0 in
-      let below = one_start_forest g w ds f e once a.1 b.1 in
+  one_start_tree : (level : Level) → (g : List Statement) (w : Wanted) (d : Domain) (t u : Tree) → EachOnce w.vars → IsStartTree level g w d t → IsStartTree level g w d u → t ≡ u
+  one_start_tree level g w (domain x ds) (node ps cs f) (node qs es e) once a b =
+      let lists = one_node level g w x ps qs cs es once a.0 b.0 in
+      let below = one_start_forest level g w ds f e once a.1 b.1 in
       λ i. node (lists.0 i) (lists.1 i) (below i)
 
-  one_start_forest : (g : List Statement) (w : Wanted) (ds : Subdomains) (f e : Forest) → EachOnce w.vars → IsStartForest g w ds f → IsStartForest g w ds e → f ≡ e
-  one_start_forest g w none leaf leaf once a b = refl
-  one_start_forest g w none leaf (more u e) once a b = absurd b
-  one_start_forest g w none (more t f) e once a b = absurd a
-  one_start_forest g w (also d ds) leaf e once a b = absurd a
-  one_start_forest g w (also d ds) (more t f) leaf once a b = absurd b
-  one_start_forest g w (also d ds) (more t f) (more u e) once a b =
-      let first = one_start_tree g w d t u once a.0 b.0 in
-      let rest = one_start_forest g w ds f e once a.1 b.1 in
+  one_start_forest : (level : Level) → (g : List Statement) (w : Wanted) (ds : Subdomains) (f e : Forest) → EachOnce w.vars → IsStartForest level g w ds f → IsStartForest level g w ds e → f ≡ e
+  one_start_forest level g w none leaf leaf once a b = refl
+  one_start_forest level g w none leaf (more u e) once a b = absurd b
+  one_start_forest level g w none (more t f) e once a b = absurd a
+  one_start_forest level g w (also d ds) leaf e once a b = absurd a
+  one_start_forest level g w (also d ds) (more t f) leaf once a b = absurd b
+  one_start_forest level g w (also d ds) (more t f) (more u e) once a b =
+      let first = one_start_tree level g w d t u once a.0 b.0 in
+      let rest = one_start_forest level g w ds f e once a.1 b.1 in
       λ i. more (first i) (rest i)
 
 -- there is one start
-pub one_start : (class : Class) (g : List Statement) (w : Wanted) (s r : Select) → AreExamples w → IsStart class g w s → IsStart class g w r → s ≡ r
-one_start class g w s r examples a b =
+pub one_start : (class : Class) (level : Level) (g : List Statement) (w : Wanted) (s r : Select) → AreExamples w → IsStart class level g w s → IsStart class level g w r → s ≡ r
+one_start class level g w s r examples a b =
     let same = one_domain_tree w examples a.domains b.domains a.over b.over in
-    let tree = one_start_tree g w b.domains a.tree b.tree examples.once (subst (λ d. IsStartTree g w d a.tree) same a.conjuncts) b.conjuncts in
+    let tree = one_start_tree level g w b.domains a.tree b.tree examples.once (subst (λ d. IsStartTree level g w d a.tree) same a.conjuncts) b.conjuncts in
     let vars = one_seen_list w.rows w.vars a.vars b.vars a.selected b.selected in
     a.query ∙ (λ i. plain_select (vars i) (tree i)) ∙ sym b.query
 
 -- what is kept is one query
-pub kept_is_one : (class : Class) (g : List Statement) (w : Wanted) (unwanted : List Mapping) (q r : Select) → AreExamples w
-    → IsKept class g w unwanted q → IsKept class g w unwanted r → q ≡ r
-kept_is_one class g w unwanted q r examples a b =
-    let same = one_start class g w a.start b.start examples a.begun b.begun in
-    let P : Select → Tree → Type 0 = λ s t. IsThinnedTree (λ u. IsRight class g w.rows unwanted (plain_select s.vars u)) s.tree t in
-    let tree = once_tree (λ u. IsRight class g w.rows unwanted (plain_select b.start.vars u)) b.start.tree a.tree b.tree (subst (λ s. P s a.tree) same a.thinned) b.thinned in
+pub kept_is_one : (class : Class) (level : Level) (g : List Statement) (w : Wanted) (unwanted : List Mapping) (q r : Select) → AreExamples w
+    → IsKept class level g w unwanted q → IsKept class level g w unwanted r → q ≡ r
+kept_is_one class level g w unwanted q r examples a b =
+    let same = one_start class level g w a.start b.start examples a.begun b.begun in
+    let P : Select → Tree → Type 0 = λ s t. IsThinnedTree (λ u. IsRight class level g w.rows unwanted (plain_select s.vars u)) s.tree t in
+    let tree = once_tree (λ u. IsRight class level g w.rows unwanted (plain_select b.start.vars u)) b.start.tree a.tree b.tree (subst (λ s. P s a.tree) same a.thinned) b.thinned in
     a.query ∙ (λ i. plain_select (same i).vars (tree i)) ∙ sym b.query
 
 -- and there is one where it is decided what is right
-pub something_is_kept : (class : Class) (g : List Statement) (w : Wanted) (unwanted : List Mapping) (start : Select) → IsStart class g w start
-    → ((q : Select) → IsRight class g w.rows unwanted q ⊎ (IsRight class g w.rows unwanted q → ⊥)) → (q : Select) × IsKept class g w unwanted q
-something_is_kept class g w unwanted start begun decide =
-    let pass = some_tree (λ t. IsRight class g w.rows unwanted (plain_select start.vars t)) (λ t. decide (plain_select start.vars t)) start.tree in
+pub something_is_kept : (class : Class) (level : Level) (g : List Statement) (w : Wanted) (unwanted : List Mapping) (start : Select) → IsStart class level g w start
+    → ((q : Select) → IsRight class level g w.rows unwanted q ⊎ (IsRight class level g w.rows unwanted q → ⊥)) → (q : Select) × IsKept class level g w unwanted q
+something_is_kept class level g w unwanted start begun decide =
+    let pass = some_tree (λ t. IsRight class level g w.rows unwanted (plain_select start.vars t)) (λ t. decide (plain_select start.vars t)) start.tree in
     (plain_select start.vars pass.0, record { start = start; tree = pass.0; begun = begun; thinned = pass.1; query = refl })
 
 -- what one pass from a right start leaves, for both classes
-pass_done : (class : Class) (g : List Statement) (w : Wanted) (unwanted : List Mapping) (start : Select) (t : Tree) → AreExamples w → Allows class unwanted → IsStart class g w start
-    → IsRight class g w.rows unwanted (plain_select start.vars start.tree) → IsThinnedTree (λ u. IsRight class g w.rows unwanted (plain_select start.vars u)) start.tree t
-    → IsRight class g w.rows unwanted (plain_select start.vars t) × ((u : Tree) → Drops t u → IsRight class g w.rows unwanted (plain_select start.vars u) → ⊥)
-pass_done And g w unwanted start t examples allowed begun right pass =
-    let done = thin_tree (λ u. IsRight And g w.rows unwanted (plain_select start.vars u)) start.tree t (conjunctions_lift g w.rows unwanted start.vars) right pass in
+pass_done : (class : Class) (level : Level) (g : List Statement) (w : Wanted) (unwanted : List Mapping) (start : Select) (t : Tree) → AreExamples w → Allows class unwanted → IsStart class level g w start
+    → IsRight class level g w.rows unwanted (plain_select start.vars start.tree) → IsThinnedTree (λ u. IsRight class level g w.rows unwanted (plain_select start.vars u)) start.tree t
+    → IsRight class level g w.rows unwanted (plain_select start.vars t) × ((u : Tree) → Drops t u → IsRight class level g w.rows unwanted (plain_select start.vars u) → ⊥)
+pass_done And level g w unwanted start t examples allowed begun right pass =
+    let done = thin_tree (λ u. IsRight And level g w.rows unwanted (plain_select start.vars u)) start.tree t (conjunctions_lift level g w.rows unwanted start.vars) right pass in
     (done.right, done.minimal)
-pass_done Optional g w unwanted start t examples allowed begun right pass =
-    let p = optional_parts g w start examples begun in
+pass_done Optional level g w unwanted start t examples allowed begun right pass =
+    let p = optional_parts level g w start examples begun in
     let vars : start.vars ≡ p.vs = ap (λ (s : Select). s.vars) p.is in
     let tree : start.tree ≡ p.tree = ap (λ (s : Select). s.tree) p.is in
-    let R : List Mapping → List Name → Tree → Type 0 = λ bad vs u. IsRight Optional g w.rows bad (plain_select vs u) in
+    let R : List Mapping → List Name → Tree → Type 0 = λ bad vs u. IsRight Optional level g w.rows bad (plain_select vs u) in
     let right_here : R [] p.vs p.tree = subst (λ vs. R [] vs p.tree) vars (subst (R [] start.vars) tree (subst (λ bad. R bad start.vars start.tree) allowed right)) in
     let pass_here : IsThinnedTree (R [] p.vs) p.tree t = subst (λ vs. IsThinnedTree (R [] vs) p.tree t) vars (subst (λ s. IsThinnedTree (R [] start.vars) s t) tree (subst (λ bad. IsThinnedTree (R bad start.vars) start.tree t) allowed pass)) in
-    let done = optional_kept g w.rows p.vs p.domains p.tree t p.selects p.over (class_is_over g w.vars w.rows p.vs p.domains p.tree p.over p.all right_here.in_class) right_here pass_here in
+    let done = optional_kept level g w.rows p.vs p.domains p.tree t p.selects p.over (class_is_over level g w.vars w.rows p.vs p.domains p.tree p.over p.all right_here.in_class) right_here pass_here in
     let back : (u : Tree) → R [] p.vs u ≡ R unwanted start.vars u = λ u. (λ i. R (sym allowed i) (sym vars i) u) in
     (coerce (back t) done.0, λ u drop h. done.1 u drop (coerce (sym (back u)) h))
   where
@@ -166,18 +195,18 @@ pass_done Optional g w unwanted start t examples allowed begun right pass =
     coerce e a = subst (λ X. X) e a
 
 -- it is right and minimal where the start is right
-pub kept_is_minimal : (class : Class) (g : List Statement) (w : Wanted) (unwanted : List Mapping) (start q : Select) → AreExamples w → Allows class unwanted
-    → IsStart class g w start → IsRight class g w.rows unwanted start → IsKept class g w unwanted q → IsRight class g w.rows unwanted q × IsMinimal class g w.rows unwanted q
-kept_is_minimal class g w unwanted start q examples allowed begun right kept =
-    let same = one_start class g w start kept.start examples begun kept.begun in
+pub kept_is_minimal : (class : Class) (level : Level) (g : List Statement) (w : Wanted) (unwanted : List Mapping) (start q : Select) → AreExamples w → Allows class unwanted
+    → IsStart class level g w start → IsRight class level g w.rows unwanted start → IsKept class level g w unwanted q → IsRight class level g w.rows unwanted q × IsMinimal class level g w.rows unwanted q
+kept_is_minimal class level g w unwanted start q examples allowed begun right kept =
+    let same = one_start class level g w start kept.start examples begun kept.begun in
     let s = kept.start in
     let plain : kept.start ≡ plain_select kept.start.vars kept.start.tree = shape kept.start kept.begun.vars kept.begun.tree kept.begun.query in
-    let done = pass_done class g w unwanted kept.start kept.tree examples allowed kept.begun (subst (IsRight class g w.rows unwanted) (same ∙ plain) right) kept.thinned in (
-      subst (IsRight class g w.rows unwanted) (sym kept.query) done.0,
+    let done = pass_done class level g w unwanted kept.start kept.tree examples allowed kept.begun (subst (IsRight class level g w.rows unwanted) (same ∙ plain) right) kept.thinned in (
+      subst (IsRight class level g w.rows unwanted) (sym kept.query) done.0,
       λ r (t, drops, e) good.
           let tree : q.tree ≡ kept.tree = ap (λ (s : Select). s.tree) kept.query in
           done.1 t (subst (λ u. Drops u t) tree drops)
-          (subst (IsRight class g w.rows unwanted) (e ∙ (λ i. record { distinct = (kept.query i).distinct; vars = (kept.query i).vars; tree = t; outer = (kept.query i).outer })) good),
+          (subst (IsRight class level g w.rows unwanted) (e ∙ (λ i. record { distinct = (kept.query i).distinct; vars = (kept.query i).vars; tree = t; outer = (kept.query i).outer })) good),
     )
   where
     shape : (s : Select) (vs : List Name) (t : Tree) → s ≡ plain_select vs t → s ≡ plain_select s.vars s.tree

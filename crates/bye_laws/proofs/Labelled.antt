@@ -1,4 +1,5 @@
 -- Trees of domains and of all common conjuncts, without the orders in which they stand.
+use Rattle.bye_pattern.specs.declared.level.Level.{Level}
 use Rattle.std.proofs.Common.{List}
 use Rattle.bye_terms.specs.Terms.{Statement}
 use Rattle.bye_table.specs.Domains.{AreAlike, BindsEach, IsBelow, IsSeen, IsWithin, Wanted}
@@ -27,14 +28,14 @@ pub record AreDomains (rows : List Mapping) (d : Domain) : Type 0 where
 
 -- at the node of each domain all common conjuncts, in any order
 abbrev mutual
-  pub AllCommon : List Statement → List Name → List Mapping → Domain → Tree → Type 0
-  AllCommon g header rows (domain x ds) (node ps cs f) = AreAllAt g rows header x ps cs × AllCommonIn g header rows ds f
+  pub AllCommon : (level : Level) → List Statement → List Name → List Mapping → Domain → Tree → Type 0
+  AllCommon level g header rows (domain x ds) (node ps cs f) = AreAllAt level g rows header x ps cs × AllCommonIn level g header rows ds f
 
-  pub AllCommonIn : List Statement → List Name → List Mapping → Subdomains → Forest → Type 0
-  AllCommonIn g header rows none leaf = Unit {0}
-  AllCommonIn g header rows none (more t f) = ⊥
-  AllCommonIn g header rows (also d ds) leaf = ⊥
-  AllCommonIn g header rows (also d ds) (more t f) = AllCommon g header rows d t × AllCommonIn g header rows ds f
+  pub AllCommonIn : (level : Level) → List Statement → List Name → List Mapping → Subdomains → Forest → Type 0
+  AllCommonIn level g header rows none leaf = Unit {0}
+  AllCommonIn level g header rows none (more t f) = ⊥
+  AllCommonIn level g header rows (also d ds) leaf = ⊥
+  AllCommonIn level g header rows (also d ds) (more t f) = AllCommon level g header rows d t × AllCommonIn level g header rows ds f
 
 -- the order of nodes beside one another forgotten
 beside_apart_all : (w : Wanted) (d : Domain) (ds : Subdomains) → IsBeside w d ds → (x y : Name) → IsLabel d x → IsLabelIn ds y → (IsWithin w.rows x y → ⊥) × (IsWithin w.rows y x → ⊥)
@@ -60,11 +61,11 @@ domains_of w d tree = record {
 
 -- and the order of conjuncts
 mutual
-  pub common_of : (g : List Statement) (w : Wanted) (d : Domain) (t : Tree) → IsStartTree g w d t → AllCommon g w.vars w.rows d t
-  common_of g w (domain x ds) (node ps cs f) (here, below) = ((here.triples, here.conditions), common_of_in g w ds f below)
+  pub common_of : (level : Level) → (g : List Statement) (w : Wanted) (d : Domain) (t : Tree) → IsStartTree level g w d t → AllCommon level g w.vars w.rows d t
+  common_of level g w (domain x ds) (node ps cs f) (here, below) = ((here.triples, here.conditions), common_of_in level g w ds f below)
 
-  common_of_in : (g : List Statement) (w : Wanted) (ds : Subdomains) (f : Forest) → IsStartForest g w ds f → AllCommonIn g w.vars w.rows ds f
-  common_of_in g w none leaf below = tt
-  common_of_in g w none (more t f) below = below
-  common_of_in g w (also d ds) leaf below = below
-  common_of_in g w (also d ds) (more t f) below = (common_of g w d t below.0, common_of_in g w ds f below.1)
+  common_of_in : (level : Level) → (g : List Statement) (w : Wanted) (ds : Subdomains) (f : Forest) → IsStartForest level g w ds f → AllCommonIn level g w.vars w.rows ds f
+  common_of_in level g w none leaf below = tt
+  common_of_in level g w none (more t f) below = below
+  common_of_in level g w (also d ds) leaf below = below
+  common_of_in level g w (also d ds) (more t f) below = (common_of level g w d t below.0, common_of_in level g w ds f below.1)

@@ -3,9 +3,9 @@ use Rattle.std.proofs.Common.{◌≡◌, cond, List, [], ◌∷◌, Option, Some
 use Rattle.std.specs.Str.{bytes_eq}
 use Rattle.std.proofs.lemmas.Slice.Eq.{bytes_eq-Decides}
 use Rattle.bye_terms.specs.declared.term.Term.{Term}
-use Rattle.bye_terms.specs.Members.{In}
+use Rattle.bye_terms.specs.Members.{EachOnce, In}
 use Rattle.bye_terms.proofs.Tests.{bool_cases, not_both}
-use Rattle.bye_table.specs.Mappings.{Binds, Mapping, Name, Pairs, row_mapping}
+use Rattle.bye_table.specs.Mappings.{Binds, Mapping, Name, NoRepeat, Pairs, row_mapping}
 use Rattle.bye_table.proofs.Merging.{binds, bound, not_bound, some_or_none, unbound}
 
 -- a variable with its value, where it has one
@@ -44,12 +44,32 @@ unfolding listing
 listed_from [] e w t h = cc
 listed_from (v ∷ vs) e w t h = ⊎_elim (λ k. ap e (sym k.0) ∙ k.1) (λ k. listed_from vs e w t k) (from_pair v w (e v) (listing vs e) t h)
 
+-- of these variables
+listed_in : (vs : List Name) (e : Mapping) (w : Name) (t : Term) → row_mapping (listing vs e) w ≡ Some t → In vs w
+unfolding listing
+listed_in [] e w t h = cc
+listed_in (v ∷ vs) e w t h = ⊎_elim (λ k. inl k.0) (λ k. inr (listed_in vs e w t k)) (from_pair v w (e v) (listing vs e) t h)
+
 -- and the values of the mapping
 listed_to : (vs : List Name) (e : Mapping) (w : Name) (t : Term) → In vs w → e w ≡ Some t → row_mapping (listing vs e) w ≡ Some t
 unfolding listing
 listed_to [] e w t h k = absurd h
 listed_to (v ∷ vs) e w t h k =
     to_pair v w (e v) (listing vs e) t (λ same. ap e same ∙ k) (⊎_elim (λ same. inl same) (λ i. inr (listed_to vs e w t i k)) h)
+
+-- of variables that are listed once it tells none twice
+pair_once : (v : Name) (o : Option Term) (rest : Pairs) → row_mapping rest v ≡ None → NoRepeat rest → NoRepeat (pair_of v o rest)
+unfolding pair_of
+pair_once v None rest fresh once = once
+pair_once v (Some t) rest fresh once = (fresh, once)
+
+pub listed_once : (vs : List Name) (e : Mapping) → EachOnce vs → NoRepeat (listing vs e)
+unfolding listing
+listed_once [] e once = tt
+listed_once (v ∷ vs) e once =
+    pair_once v (e v) (listing vs e)
+    (unbound (row_mapping (listing vs e) v) (λ b. let w = bound (row_mapping (listing vs e) v) b in once.0 (listed_in vs e v w.0 w.1)))
+    (listed_once vs e once.1)
 
 -- a mapping that binds of these variables alone is that of its list
 pub listed_whole : (vs : List Name) (e : Mapping) → ((v : Name) → Binds e v → In vs v) → row_mapping (listing vs e) ≡ e

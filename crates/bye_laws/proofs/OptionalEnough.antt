@@ -1,4 +1,5 @@
 -- The class with OPTIONAL groups: where no claim shows, the start fits.
+use Rattle.bye_pattern.specs.declared.level.Level.{Level}
 use Rattle.std.proofs.Common.{◌≡◌, refl, ℕ, List, [], ◌∷◌, Option, Some, None, ◌⊎◌, inl, inr, ⊎_elim, sym, ◌∙◌, ap, subst, IsSome}
 use Rattle.bye_terms.specs.declared.term.Term.{Term}
 use Rattle.bye_terms.specs.Members.{In}
@@ -46,10 +47,10 @@ pick_some (inl p) o h = p
 pick_some (inr n) o h = cc
 
 -- values at a node of the start are an extension
-values_extend : (g : List Statement) (header : List Name) (rows : List Mapping) → ((v : Name) → IsSeen rows v → In header v) → ((x : Name) → ShowsUncovered g rows x → ⊥) → (m : Mapping) → In rows m → (parent : List Name) (z : Name) (d : Domain) (t : Tree)
-    → Start rows parent d → AllCommon g header rows d t → ((v : Name) → In parent v → Binds m v) → IsSeen rows z → IsWithin rows (label d) z → (IsWithin rows z (label d) → ⊥) → (Binds m (label d) → ⊥)
-    → (e : Mapping) → MeetsNode g (merge m e) t → (i : ℕ) → IsRowAt rows i m → ShowsExtension g rows i (label d) (part rows (label d) e)
-values_extend g header rows heads covered m row parent z (domain y ds) (node ps cs f) s ((same, conds), below) up z_seen z_up z_shut lacks e met i at =
+values_extend : (level : Level) → (g : List Statement) (header : List Name) (rows : List Mapping) → ((v : Name) → IsSeen rows v → In header v) → ((x : Name) → ShowsUncovered g rows x → ⊥) → (m : Mapping) → In rows m → (parent : List Name) (z : Name) (d : Domain) (t : Tree)
+    → Start rows parent d → AllCommon level g header rows d t → ((v : Name) → In parent v → Binds m v) → IsSeen rows z → IsWithin rows (label d) z → (IsWithin rows z (label d) → ⊥) → (Binds m (label d) → ⊥)
+    → (e : Mapping) → MeetsNode g (merge m e) t → (i : ℕ) → IsRowAt rows i m → ShowsExtension level g rows i (label d) (part rows (label d) e)
+values_extend level g header rows heads covered m row parent z (domain y ds) (node ps cs f) s ((same, conds), below) up z_seen z_up z_shut lacks e met i at =
     let seen = s.known y (inl refl) in
     let greater : (v : Name) → IsSeen rows v → IsWithin rows y v → (IsWithin rows v y → ⊥) → Binds m v = λ v k h shut. up v (strictly rows parent (domain y ds) s v k h shut) in
     let small = part rows y e in
@@ -74,44 +75,44 @@ values_extend g header rows heads covered m row parent z (domain y ds) (node ps 
           (λ v k h a. told v k (common.over v (⊎_elim (λ i. i) (λ i. absurd i) (in_cases (vars p) [] v h))) a)
           (all_in (Meets g (merge m e)) ps p met.0 ((same p).1 common), tt)).0;
       conditions = λ c common.
-          let k = in_form header rows y (λ v up. heads v (seen_up rows y v seen up)) cs conds c common in
+          let k = in_form level header rows y (λ v up. heads v (seen_up rows y v seen up)) cs conds c common in
           met_told (merge m e) (merge m small) c (λ v t h a. told v t (common.over v h) a) (k.2 (merge m e) (all_in (MeetsCond (merge m e)) cs k.0 met.1 k.1));
     }
 
 -- so each row says what it should of each node
 mutual
-  enough_at : (g : List Statement) (header : List Name) (rows : List Mapping) → ((v : Name) → IsSeen rows v → In header v) → ((x : Name) → ShowsUncovered g rows x → ⊥) → ((i : ℕ) (x : Name) (e : Mapping) → ShowsExtension g rows i x e → ⊥)
-      → (m : Mapping) → In rows m → (parent : List Name) (d : Domain) (t : Tree) → Start rows parent d → AllCommon g header rows d t → ByDomain g m d t
-  enough_at g header rows heads covered closed m row parent (domain x ds) (node ps cs f) s ((same, conds), below) = (
+  enough_at : (level : Level) → (g : List Statement) (header : List Name) (rows : List Mapping) → ((v : Name) → IsSeen rows v → In header v) → ((x : Name) → ShowsUncovered g rows x → ⊥) → ((i : ℕ) (x : Name) (e : Mapping) → ShowsExtension level g rows i x e → ⊥)
+      → (m : Mapping) → In rows m → (parent : List Name) (d : Domain) (t : Tree) → Start rows parent d → AllCommon level g header rows d t → ByDomain g m d t
+  enough_at level g header rows heads covered closed m row parent (domain x ds) (node ps cs f) s ((same, conds), below) = (
     λ b. (
       all_from (Meets g m) ps (λ p h. all_in (λ m. Binds m x → Meets g m p) rows m ((same p).0 h).holds row b),
       all_from (MeetsCond m) cs (λ c h. all_in (λ m. Binds m x → MeetsCond m c) rows m ((conds c).0 h).0.holds row b),
     ),
-    enough_in g header rows heads covered closed m row (all_vars ps) x (s.known x (inl refl)) ds s.order.0
+    enough_in level g header rows heads covered closed m row (all_vars ps) x (s.known x (inl refl)) ds s.order.0
         (λ b v h. let w = in_all_vars ps v h in within_row rows m x v row (((same w.0).0 w.1).over v w.2) b) ds f (λ y h. h) (start_down g rows parent x ds ps same (own_from g rows covered x ps same) s) below,
   )
 
-  enough_in : (g : List Statement) (header : List Name) (rows : List Mapping) → ((v : Name) → IsSeen rows v → In header v) → ((x : Name) → ShowsUncovered g rows x → ⊥) → ((i : ℕ) (x : Name) (e : Mapping) → ShowsExtension g rows i x e → ⊥)
+  enough_in : (level : Level) → (g : List Statement) (header : List Name) (rows : List Mapping) → ((v : Name) → IsSeen rows v → In header v) → ((x : Name) → ShowsUncovered g rows x → ⊥) → ((i : ℕ) (x : Name) (e : Mapping) → ShowsExtension level g rows i x e → ⊥)
       → (m : Mapping) → In rows m → (parent : List Name) (z : Name) → IsSeen rows z → (all : Subdomains) → ((y : Name) → IsLabelIn all y → IsWithin rows y z × (IsWithin rows z y → ⊥)) → (Binds m z → (v : Name) → In parent v → Binds m v)
-      → (ds : Subdomains) (f : Forest) → ((y : Name) → IsLabelIn ds y → IsLabelIn all y) → StartIn rows parent ds → AllCommonIn g header rows ds f → ByDomains g m z ds f
-  enough_in g header rows heads covered closed m row parent z z_seen all smaller up none leaf sub s below = tt
-  enough_in g header rows heads covered closed m row parent z z_seen all smaller up none (more t f) sub s below = tt
-  enough_in g header rows heads covered closed m row parent z z_seen all smaller up (also d ds) leaf sub s below = tt
-  enough_in g header rows heads covered closed m row parent z z_seen all smaller up (also d ds) (more t f) sub s below =
+      → (ds : Subdomains) (f : Forest) → ((y : Name) → IsLabelIn ds y → IsLabelIn all y) → StartIn rows parent ds → AllCommonIn level g header rows ds f → ByDomains g m z ds f
+  enough_in level g header rows heads covered closed m row parent z z_seen all smaller up none leaf sub s below = tt
+  enough_in level g header rows heads covered closed m row parent z z_seen all smaller up none (more t f) sub s below = tt
+  enough_in level g header rows heads covered closed m row parent z z_seen all smaller up (also d ds) leaf sub s below = tt
+  enough_in level g header rows heads covered closed m row parent z z_seen all smaller up (also d ds) (more t f) sub s below =
       let one = start_first rows parent d ds s in
       let low = smaller (label d) (sub (label d) (inl (label_self d))) in (
         λ b lacks e over agree met.
             let at = in_at rows m row in
-            closed at.0 (label d) (part rows (label d) e) (values_extend g header rows heads covered m row parent z d t one below.0 (up b) z_seen low.0 low.1 lacks e met at.0 at.1),
-        enough_at g header rows heads covered closed m row parent d t one below.0,
-        enough_in g header rows heads covered closed m row parent z z_seen all smaller up ds f (λ y h. sub y (inr h)) (start_rest rows parent d ds s) below.1,
+            closed at.0 (label d) (part rows (label d) e) (values_extend level g header rows heads covered m row parent z d t one below.0 (up b) z_seen low.0 low.1 lacks e met at.0 at.1),
+        enough_at level g header rows heads covered closed m row parent d t one below.0,
+        enough_in level g header rows heads covered closed m row parent z z_seen all smaller up ds f (λ y h. sub y (inr h)) (start_rest rows parent d ds s) below.1,
       )
 
 -- where no claim shows, the start is right
-pub start_tree_enough : (g : List Statement) (rows : List Mapping) (header vs : List Name) (d : Domain) (t : Tree) → ((v : Name) → IsSeen rows v → In header v) → Selects rows vs → AreDomains rows d
-    → AllCommon g header rows d t → ((x : Name) → ShowsUncovered g rows x → ⊥) → ((i : ℕ) (x : Name) (e : Mapping) → ShowsExtension g rows i x e → ⊥) → IsRight Optional g rows [] (plain_select vs t)
-start_tree_enough g rows header vs d t heads selects tree start covered closed =
-    from_labels g rows vs d t selects tree (record {
-      over = start_is_over g header rows d t tree start covered;
-      by = all_from (λ m. ByDomain g m d t) rows (λ m row. enough_at g header rows heads covered closed m row [] d t (root_start rows d tree) start);
+pub start_tree_enough : (level : Level) → (g : List Statement) (rows : List Mapping) (header vs : List Name) (d : Domain) (t : Tree) → ((v : Name) → IsSeen rows v → In header v) → Selects rows vs → AreDomains rows d
+    → AllCommon level g header rows d t → ((x : Name) → ShowsUncovered g rows x → ⊥) → ((i : ℕ) (x : Name) (e : Mapping) → ShowsExtension level g rows i x e → ⊥) → IsRight Optional level g rows [] (plain_select vs t)
+start_tree_enough level g rows header vs d t heads selects tree start covered closed =
+    from_labels level g rows vs d t selects tree (record {
+      over = start_is_over level g header rows d t tree start covered;
+      by = all_from (λ m. ByDomain g m d t) rows (λ m row. enough_at level g header rows heads covered closed m row [] d t (root_start rows d tree) start);
     })

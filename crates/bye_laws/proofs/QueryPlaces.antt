@@ -1,4 +1,5 @@
 -- Places in a query of the class with OPTIONAL groups: parents, and what the wanted rows say of a node's conjuncts.
+use Rattle.bye_pattern.specs.declared.level.Level.{Level}
 use Rattle.std.proofs.Common.{◌≡◌, refl, List, [], ◌++◌, ◌⊎◌, inl, inr, ⊎_elim, sym, subst}
 use Rattle.std.specs.List.{AllByRecursion}
 use Rattle.bye_terms.specs.Members.{In}
@@ -77,35 +78,35 @@ mutual
   safe_in parent seen (more t f) d p u (inr k) = safe_in parent (seen ++ tree_vars t) f d.1 p u k
 
 -- the variables of a node and of its parent are of greater domains than its new ones
-pub parent_up : (rows : List Mapping) (q : Select) → InOptional rows q → (p : List Name) (u : Tree) → IsNode [] q.tree p u → (x : Name) → IsNewAt p u x → (v : Name) → In p v → IsWithin rows x v
-parent_up rows q class p u k x nx v h =
-    ⊎_elim (λ i. absurd i) (λ w. ((order_at rows q class w.0 w.1 p u v x w.2 k w.3 nx).0 w.4).0) (above [] q.tree p u v k h)
+pub parent_up : (level : Level) → (rows : List Mapping) (q : Select) → InOptional level rows q → (p : List Name) (u : Tree) → IsNode [] q.tree p u → (x : Name) → IsNewAt p u x → (v : Name) → In p v → IsWithin rows x v
+parent_up level rows q class p u k x nx v h =
+    ⊎_elim (λ i. absurd i) (λ w. ((order_at level rows q class w.0 w.1 p u v x w.2 k w.3 nx).0 w.4).0) (above [] q.tree p u v k h)
 
 -- the node's own variables are around its new ones
-pub own_up : (rows : List Mapping) (q : Select) → InOptional rows q → (p : List Name) (u : Tree) → IsNode [] q.tree p u → (x : Name) → IsNewAt p u x → (v : Name) → In (own_vars u) v → IsWithin rows x v
-own_up rows q class p u k x nx v h =
-    ⊎_elim (λ i. parent_up rows q class p u k x nx v i)
-    (λ out. let c = class_at rows q class p u k in within_trans rows x c.0 v ((c.2 x).0 nx).1.1 ((c.2 v).0 (h, out)).1.0) (in_or_not p v)
+pub own_up : (level : Level) → (rows : List Mapping) (q : Select) → InOptional level rows q → (p : List Name) (u : Tree) → IsNode [] q.tree p u → (x : Name) → IsNewAt p u x → (v : Name) → In (own_vars u) v → IsWithin rows x v
+own_up level rows q class p u k x nx v h =
+    ⊎_elim (λ i. parent_up level rows q class p u k x nx v i)
+    (λ out. let c = class_at level rows q class p u k in within_trans rows x c.0 v ((c.2 x).0 nx).1.1 ((c.2 v).0 (h, out)).1.0) (in_or_not p v)
 
 -- a row that binds one new variable binds all
-pub binds_class : (rows : List Mapping) (m : Mapping) → In rows m → (q : Select) → InOptional rows q → (p : List Name) (u : Tree) → IsNode [] q.tree p u → (x : Name) → IsNewAt p u x → Binds m x → BindsNew m p u
-binds_class rows m row q class p u k x nx b v nv = within_row rows m x v row (own_up rows q class p u k x nx v nv.0) b
+pub binds_class : (level : Level) → (rows : List Mapping) (m : Mapping) → In rows m → (q : Select) → InOptional level rows q → (p : List Name) (u : Tree) → IsNode [] q.tree p u → (x : Name) → IsNewAt p u x → Binds m x → BindsNew m p u
+binds_class level rows m row q class p u k x nx b v nv = within_row rows m x v row (own_up level rows q class p u k x nx v nv.0) b
 
 -- each conjunct of a node is common at its new variables
-pub conjuncts_common : (g : List Statement) (rows : List Mapping) (q : Select) → InOptional rows q → AllByRecursion (Answers g q) rows → (p : List Name) (u : Tree) → IsNode [] q.tree p u → (x : Name) → IsNewAt p u x
-    → ((c : Pattern) → In (own_triples u) c → IsCommonAt g rows x c) × ((c : Cond) → In (own_conds u) c → IsCommonCondAt rows x c)
-conjuncts_common g rows q class fits p u k x nx =
-    let by = (by_nodes g q rows class).0 fits in
-    let met : (m : Mapping) → In rows m → Binds m x → MeetsNode g m u = λ m row b. (all_in (ByNode g q.tree) rows m by row).meets p u k (binds_class rows m row q class p u k x nx b) in (
+pub conjuncts_common : (level : Level) → (g : List Statement) (rows : List Mapping) (q : Select) → InOptional level rows q → AllByRecursion (Answers g q) rows → (p : List Name) (u : Tree) → IsNode [] q.tree p u → (x : Name) → IsNewAt p u x
+    → ((c : Pattern) → In (own_triples u) c → IsCommonAt g rows x c) × ((c : Cond) → In (own_conds u) c → IsCommonCondAt level rows x c)
+conjuncts_common level g rows q class fits p u k x nx =
+    let by = (by_nodes level g q rows class).0 fits in
+    let met : (m : Mapping) → In rows m → Binds m x → MeetsNode g m u = λ m row b. (all_in (ByNode g q.tree) rows m by row).meets p u k (binds_class level rows m row q class p u k x nx b) in (
       λ c h. record {
         in_class = all_in IsClassTriple (own_triples u) c (class.triples p u k) h;
-        over = λ v i. own_up rows q class p u k x nx v (all_vars_in (own_triples u) c v h i);
+        over = λ v i. own_up level rows q class p u k x nx v (all_vars_in (own_triples u) c v h i);
         holds = all_from (λ m. Binds m x → Meets g m c) rows (λ m row b. all_in (Meets g m) (own_triples u) c (met m row b).0 h);
       },
       λ c h. record {
-        in_class = all_in IsClassCond (own_conds u) c (class.conds p u k) h;
-        over = λ v i. ⊎_elim (λ j. own_up rows q class p u k x nx v j) (λ j. parent_up rows q class p u k x nx v j)
-            (all_in (λ c. (v : Name) → In (cond_vars c) v → In (own_vars u) v ⊎ In p v) (own_conds u) c (safe_at [] [] q.tree (once_designed rows q class) p u k) h v i);
+        in_class = all_in (IsClassCond level) (own_conds u) c (class.conds p u k) h;
+        over = λ v i. ⊎_elim (λ j. own_up level rows q class p u k x nx v j) (λ j. parent_up level rows q class p u k x nx v j)
+            (all_in (λ c. (v : Name) → In (cond_vars c) v → In (own_vars u) v ⊎ In p v) (own_conds u) c (safe_at [] [] q.tree (once_designed level rows q class) p u k) h v i);
         holds = all_from (λ m. Binds m x → MeetsCond m c) rows (λ m row b. all_in (MeetsCond m) (own_conds u) c (met m row b).1 h);
       },
     )

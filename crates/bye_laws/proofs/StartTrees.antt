@@ -1,4 +1,5 @@
 -- The start over domains, where no variable is uncovered.
+use Rattle.bye_pattern.specs.declared.level.Level.{Level}
 use Rattle.std.proofs.Common.{refl, List, [], ◌⊎◌, inl, inr, ⊎_elim, sym, subst, ◌↔◌}
 use Rattle.bye_terms.specs.Members.{In}
 use Rattle.bye_terms.specs.Terms.{Statement}
@@ -79,9 +80,9 @@ strictly rows parent (domain x ds) s v seen up shut =
     (λ h. h) (s.stands x (inl refl) v seen up)
 
 -- a node of the start in which every variable around its domain stands
-pub group_over : (g : List Statement) (header : List Name) (rows : List Mapping) (parent : List Name) (x : Name) (ds : Subdomains) (ps : List Pattern) (cs : List Cond) → Start rows parent (domain x ds)
-    → AreAllAt g rows header x ps cs → ((v : Name) → IsSeen rows v → IsWithin rows x v → In (all_vars ps) v) → IsGroupOf rows parent x ps cs
-group_over g header rows parent x ds ps cs s (same, conds) full =
+pub group_over : (level : Level) → (g : List Statement) (header : List Name) (rows : List Mapping) (parent : List Name) (x : Name) (ds : Subdomains) (ps : List Pattern) (cs : List Cond) → Start rows parent (domain x ds)
+    → AreAllAt level g rows header x ps cs → ((v : Name) → IsSeen rows v → IsWithin rows x v → In (all_vars ps) v) → IsGroupOf level rows parent x ps cs
+group_over level g header rows parent x ds ps cs s (same, conds) full =
     let up : (v : Name) → In (all_vars ps) v → IsWithin rows x v = λ v h. let w = in_all_vars ps v h in ((same w.0).0 w.1).over v w.2 in
     let seen : (v : Name) → IsWithin rows x v → IsSeen rows v = λ v h. seen_up rows x v (s.known x (inl refl)) h in
     record {
@@ -90,30 +91,30 @@ group_over g header rows parent x ds ps cs s (same, conds) full =
       rises = λ v h shut. strictly rows parent (domain x ds) s v (seen v (up v h)) (up v h) shut;
       safe = all_from (IsSafe parent ps) cs (λ c h v i. let k = ((conds c).0 h).0.over v i in inl (full v (seen v k) k));
       triples = all_from IsClassTriple ps (λ p h. ((same p).0 h).in_class);
-      conds = all_from IsClassCond cs (λ c h. ((conds c).0 h).0.in_class);
+      conds = all_from (IsClassCond level) cs (λ c h. ((conds c).0 h).0.in_class);
     }
 
 -- so each node is over its domain
 mutual
-  start_over : (g : List Statement) (header : List Name) (rows : List Mapping) → ((x : Name) → ShowsUncovered g rows x → ⊥) → (parent : List Name) (d : Domain) (t : Tree) → Start rows parent d → AllCommon g header rows d t → IsOver rows parent d t
-  start_over g header rows covered parent (domain x ds) (node ps cs f) s (all, below) =
+  start_over : (level : Level) → (g : List Statement) (header : List Name) (rows : List Mapping) → ((x : Name) → ShowsUncovered g rows x → ⊥) → (parent : List Name) (d : Domain) (t : Tree) → Start rows parent d → AllCommon level g header rows d t → IsOver level rows parent d t
+  start_over level g header rows covered parent (domain x ds) (node ps cs f) s (all, below) =
       let full = own_from g rows covered x ps all.0 in (
-        group_over g header rows parent x ds ps cs s all full,
-        start_over_in g header rows covered (all_vars ps) ds f (start_down g rows parent x ds ps all.0 full s) below,
+        group_over level g header rows parent x ds ps cs s all full,
+        start_over_in level g header rows covered (all_vars ps) ds f (start_down g rows parent x ds ps all.0 full s) below,
       )
 
-  start_over_in : (g : List Statement) (header : List Name) (rows : List Mapping) → ((x : Name) → ShowsUncovered g rows x → ⊥) → (parent : List Name) (ds : Subdomains) (f : Forest) → StartIn rows parent ds → AllCommonIn g header rows ds f → AreOver rows parent ds f
-  start_over_in g header rows covered parent none leaf s below = tt
-  start_over_in g header rows covered parent none (more t f) s below = absurd below
-  start_over_in g header rows covered parent (also d ds) leaf s below = absurd below
-  start_over_in g header rows covered parent (also d ds) (more t f) s below =
-      (start_over g header rows covered parent d t (start_first rows parent d ds s) below.0, start_over_in g header rows covered parent ds f (start_rest rows parent d ds s) below.1)
+  start_over_in : (level : Level) → (g : List Statement) (header : List Name) (rows : List Mapping) → ((x : Name) → ShowsUncovered g rows x → ⊥) → (parent : List Name) (ds : Subdomains) (f : Forest) → StartIn rows parent ds → AllCommonIn level g header rows ds f → AreOver level rows parent ds f
+  start_over_in level g header rows covered parent none leaf s below = tt
+  start_over_in level g header rows covered parent none (more t f) s below = absurd below
+  start_over_in level g header rows covered parent (also d ds) leaf s below = absurd below
+  start_over_in level g header rows covered parent (also d ds) (more t f) s below =
+      (start_over level g header rows covered parent d t (start_first rows parent d ds s) below.0, start_over_in level g header rows covered parent ds f (start_rest rows parent d ds s) below.1)
 
 -- at the root
 pub root_start : (rows : List Mapping) (d : Domain) → AreDomains rows d → Start rows [] d
 root_start rows d tree = record { known = tree.seen; order = tree.ordered; stands = λ y k v seen up. inl (tree.covers v seen); low = λ y k v h. absurd h }
 
 -- the start over domains is of the class where no variable is uncovered
-pub start_is_over : (g : List Statement) (header : List Name) (rows : List Mapping) (d : Domain) (t : Tree) → AreDomains rows d → AllCommon g header rows d t
-    → ((x : Name) → ShowsUncovered g rows x → ⊥) → IsOver rows [] d t
-start_is_over g header rows d t tree start covered = start_over g header rows covered [] d t (root_start rows d tree) start
+pub start_is_over : (level : Level) → (g : List Statement) (header : List Name) (rows : List Mapping) (d : Domain) (t : Tree) → AreDomains rows d → AllCommon level g header rows d t
+    → ((x : Name) → ShowsUncovered g rows x → ⊥) → IsOver level rows [] d t
+start_is_over level g header rows d t tree start covered = start_over level g header rows covered [] d t (root_start rows d tree) start

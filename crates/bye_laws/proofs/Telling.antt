@@ -7,8 +7,9 @@ use Rattle.bye_terms.specs.Members.{In}
 use Rattle.bye_terms.specs.Terms.{Statement}
 use Rattle.bye_terms.proofs.Lists.{all_map, map_all}
 use Rattle.bye_terms.proofs.Members.{in_cases}
+use Rattle.bye_pattern.specs.declared.kind.Kind.{Kind}
 use Rattle.bye_pattern.specs.declared.cond.Cond.{Cond}
-use Rattle.bye_pattern.specs.Conditions.{AllHold, AllHoldExpr, Holds, HoldsExpr, cond_expr, cond_vars, same_value}
+use Rattle.bye_pattern.specs.Conditions.{AllHold, AllHoldExpr, Holds, HoldsExpr, cond_expr, cond_vars, kind_value, same_value}
 use Rattle.bye_pattern.specs.Conjuncts.{MeetsCond}
 use Rattle.bye_table.specs.Mappings.{Binds, Mapping, Name, first_of, merge}
 use Rattle.bye_pattern.specs.Patterns.{Meets, Pattern, all_vars, vars}
@@ -27,11 +28,17 @@ same_told None p q r x y e = cc
 same_told (Some s) None q r x y e = cc
 same_told (Some s) (Some t) q r x y e = (λ i. same_value (x s refl i) (y t refl i)) ∙ e
 
+-- a kind test
+kind_told : (kind : Kind) (o p : Option Term) → ((t : Term) → o ≡ Some t → p ≡ Some t) → kind_value kind o ≡ Some true → kind_value kind p ≡ Some true
+kind_told kind None p tells e = cc
+kind_told kind (Some t) p tells e = ap (kind_value kind) (tells t refl) ∙ e
+
 -- a condition that is true
 pub holds_told : (m n : Mapping) (c : Cond) → ((v : Name) (t : Term) → In (cond_vars c) v → m v ≡ Some t → n v ≡ Some t) → Holds m c → Holds n c
 holds_told m n (conds.Bound v) tells h = bound_told (m v) (n v) (λ t e. tells v t (inl refl) e) h
 holds_told m n (conds.SameVar v w) tells h = same_told (m v) (m w) (n v) (n w) (λ t e. tells v t (inl refl) e) (λ t e. tells w t (inr (inl refl)) e) h
 holds_told m n (conds.SameConst v c) tells h = same_told (m v) (Some c) (n v) (Some c) (λ t e. tells v t (inl refl) e) (λ t e. e) h
+holds_told m n (conds.KindOf kind v) tells h = kind_told kind (m v) (n v) (λ t e. tells v t (inl refl) e) h
 
 -- a condition that is met
 pub met_told : (m n : Mapping) (c : Cond) → ((v : Name) (t : Term) → In (cond_vars c) v → m v ≡ Some t → n v ≡ Some t) → MeetsCond m c → MeetsCond n c
@@ -61,6 +68,11 @@ same_true None p e = cc
 same_true (Some s) None e = cc
 same_true (Some s) (Some t) e = (refl, refl)
 
+-- a kind test that is true has a value
+kind_true : (kind : Kind) (o : Option Term) → kind_value kind o ≡ Some true → IsSome o
+kind_true kind None e = cc
+kind_true kind (Some t) e = refl
+
 -- a condition that is true is met
 pub holds_meets : (m : Mapping) (c : Cond) → Holds m c → MeetsCond m c
 holds_meets m (conds.Bound v) h = ((λ w i. ⊎_elim (λ e. subst (Binds m) e (bound_true (m v) h)) (λ k. absurd k) i), h)
@@ -68,6 +80,7 @@ holds_meets m (conds.SameVar v w) h =
     let both = same_true (m v) (m w) h in
     ((λ u i. ⊎_elim (λ e. subst (Binds m) e both.0) (λ i. ⊎_elim (λ e. subst (Binds m) e both.1) (λ k. absurd k) i) i), h)
 holds_meets m (conds.SameConst v c) h = ((λ w i. ⊎_elim (λ e. subst (Binds m) e (same_true (m v) (Some c) h).0) (λ k. absurd k) i), h)
+holds_meets m (conds.KindOf kind v) h = ((λ w i. ⊎_elim (λ e. subst (Binds m) e (kind_true kind (m v) h)) (λ k. absurd k) i), h)
 
 -- conditions that are true are met
 pub all_meet : (m : Mapping) (cs : List Cond) → AllHold cs m → AllByRecursion (MeetsCond m) cs

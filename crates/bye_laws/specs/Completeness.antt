@@ -1,4 +1,5 @@
 -- When some query of a class fits, by the start tree and by claims.
+use Rattle.bye_pattern.specs.declared.level.Level.{Level}
 use Rattle.std.specs.Prelude.{◌≡◌, List, [], ◌↔◌}
 use Rattle.bye_terms.specs.Members.{EachOnce, In}
 use Rattle.bye_terms.specs.Terms.{Statement}
@@ -25,23 +26,23 @@ Allows Optional unwanted = unwanted ≡ []
 
 -- where any query of the class fits, the start is of the class and fits
 abbrev pub StartsFitIfAny : Type 0
-StartsFitIfAny = (class : Class) (g : List Statement) (w : Wanted) (unwanted : List Mapping) (start q : Select) → AreExamples w → Allows class unwanted → IsStart class g w start
-    → IsRight class g w.rows unwanted q → IsRight class g w.rows unwanted start
+StartsFitIfAny = (class : Class) (level : Level) (g : List Statement) (w : Wanted) (unwanted : List Mapping) (start q : Select) → AreExamples w → Allows class unwanted → IsStart class level g w start
+    → IsRight class level g w.rows unwanted q → IsRight class level g w.rows unwanted start
 
 -- no query of the class fits exactly where the start is not of the class or does not fit
 abbrev pub NoneFitsAsTheStart : Type 0
-NoneFitsAsTheStart = (class : Class) (g : List Statement) (w : Wanted) (unwanted : List Mapping) (start : Select) → AreExamples w → Allows class unwanted → IsStart class g w start
-    → NoFit (IsOfClass class w.rows) g w.rows unwanted ↔ (IsRight class g w.rows unwanted start → ⊥)
+NoneFitsAsTheStart = (class : Class) (level : Level) (g : List Statement) (w : Wanted) (unwanted : List Mapping) (start : Select) → AreExamples w → Allows class unwanted → IsStart class level g w start
+    → NoFit (IsOfClass class level w.rows) g w.rows unwanted ↔ (IsRight class level g w.rows unwanted start → ⊥)
 
 -- each certificate that shows is right: no query of its class fits
 abbrev pub CertificatesAreSound : Type 0
 CertificatesAreSound = (g : List Statement) (w : Wanted) (unwanted : List Mapping) (c : CertificateValue) → AreExamples w → Shows g w.rows unwanted c
-    → NoFit (IsOfClass c.class w.rows) g w.rows unwanted
+    → NoFit (IsOfClass c.class c.level w.rows) g w.rows unwanted
 
 -- where no query of the class fits, some certificate of the class shows it: it is not so that none does
 abbrev pub CertificatesAreEnough : Type 0
-CertificatesAreEnough = (class : Class) (g : List Statement) (w : Wanted) (unwanted : List Mapping) → AreExamples w → Allows class unwanted
-    → NoFit (IsOfClass class w.rows) g w.rows unwanted → ((c : CertificateValue) → c.class ≡ class → Shows g w.rows unwanted c → ⊥) → ⊥
+CertificatesAreEnough = (class : Class) (level : Level) (g : List Statement) (w : Wanted) (unwanted : List Mapping) → AreExamples w → Allows class unwanted
+    → NoFit (IsOfClass class level w.rows) g w.rows unwanted → ((c : CertificateValue) → c.class ≡ class → c.level ≡ level → Shows g w.rows unwanted c → ⊥) → ⊥
 
 -- there is a tree of domains exactly where neither noroot nor a fork shows
 abbrev pub DomainTreesByClaims : Type 0
@@ -50,5 +51,5 @@ DomainTreesByClaims = (w : Wanted) → AreExamples w
 
 -- over a tree of domains the start is of the class with OPTIONAL groups exactly where no variable is uncovered
 abbrev pub StartsByCovering : Type 0
-StartsByCovering = (g : List Statement) (w : Wanted) (start : Select) → AreExamples w → IsStart Optional g w start
-    → IsOfClass Optional w.rows start ↔ ((x : Name) → ShowsUncovered g w.rows x → ⊥)
+StartsByCovering = (level : Level) (g : List Statement) (w : Wanted) (start : Select) → AreExamples w → IsStart Optional level g w start
+    → IsOfClass Optional level w.rows start ↔ ((x : Name) → ShowsUncovered g w.rows x → ⊥)

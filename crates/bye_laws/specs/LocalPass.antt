@@ -1,5 +1,6 @@
 -- The pass over a tree of the class with OPTIONAL groups, each question asked at its own node: over a tree of domains, by the
 -- variables that name them.
+use Rattle.bye_pattern.specs.declared.level.Level.{Level}
 use Rattle.std.specs.Prelude.{◌≡◌, List, [], ◌↔◌}
 use Rattle.std.specs.List.{AllByRecursion}
 use Rattle.bye_terms.specs.Members.{In}
@@ -21,23 +22,23 @@ use Rattle.bye_laws.specs.Completeness.{AreExamples}
 use Rattle.bye_laws.specs.Reaching.{NoValues}
 
 -- a node for the class of x, below a parent with these variables
-pub record IsGroupOf (rows : List Mapping) (parent : List Name) (x : Name) (ps : List Pattern) (cs : List Cond) : Type 0 where
+pub record IsGroupOf (level : Level) (rows : List Mapping) (parent : List Name) (x : Name) (ps : List Pattern) (cs : List Cond) : Type 0 where
   pub over : (v : Name) → In (all_vars ps) v → IsWithin rows x v
   pub cover : (v : Name) → IsSeen rows v → AreAlike rows x v → In (all_vars ps) v
   pub rises : (v : Name) → In (all_vars ps) v → (IsWithin rows v x → ⊥) → In parent v
   pub safe : AllByRecursion (IsSafe parent ps) cs
   pub triples : AllByRecursion IsClassTriple ps
-  pub conds : AllByRecursion IsClassCond cs
+  pub conds : AllByRecursion (IsClassCond level) cs
 
 abbrev mutual
-  pub IsOver : List Mapping → List Name → Domain → Tree → Type 0
-  IsOver rows parent (domain x ds) (node ps cs f) = IsGroupOf rows parent x ps cs × AreOver rows (all_vars ps) ds f
+  pub IsOver : Level → List Mapping → List Name → Domain → Tree → Type 0
+  IsOver level rows parent (domain x ds) (node ps cs f) = IsGroupOf level rows parent x ps cs × AreOver level rows (all_vars ps) ds f
 
-  pub AreOver : List Mapping → List Name → Subdomains → Forest → Type 0
-  AreOver rows parent none leaf = Unit {0}
-  AreOver rows parent none (more t f) = ⊥
-  AreOver rows parent (also d ds) leaf = ⊥
-  AreOver rows parent (also d ds) (more t f) = IsOver rows parent d t × AreOver rows parent ds f
+  pub AreOver : Level → List Mapping → List Name → Subdomains → Forest → Type 0
+  AreOver level rows parent none leaf = Unit {0}
+  AreOver level rows parent none (more t f) = ⊥
+  AreOver level rows parent (also d ds) leaf = ⊥
+  AreOver level rows parent (also d ds) (more t f) = IsOver level rows parent d t × AreOver level rows parent ds f
 
 -- what a wanted row says of each node, by the variables of a tree of domains
 abbrev mutual
@@ -54,41 +55,41 @@ abbrev pub IsShut : List Statement → List Mapping → Name → Name → Tree �
 IsShut g rows z x t = AllByRecursion (λ m. Binds m z → (Binds m x → ⊥) → NoValues g m t) rows
 
 -- a node below a parent whose triples have these variables, and whose domain has the variable z, is right with all below it
-pub record IsSettled (g : List Statement) (rows : List Mapping) (parent : List Name) (z : Name) (d : Domain) (t : Tree) : Type 0 where
-  pub over : IsOver rows parent d t
+pub record IsSettled (level : Level) (g : List Statement) (rows : List Mapping) (parent : List Name) (z : Name) (d : Domain) (t : Tree) : Type 0 where
+  pub over : IsOver level rows parent d t
   pub by : AllByRecursion (λ m. ByDomain g m d t) rows
   pub shut : IsShut g rows z (label d) t
 
 -- the pass, children first, then conditions, then triples
 abbrev mutual
-  pub IsThinnedHere : List Statement → List Mapping → List Name → Name → Domain → Tree → Tree → Type 0
-  IsThinnedHere g rows parent z (domain x ds) (node ps cs f) r = (e : Forest) × (es : List Cond) × (qs : List Pattern)
-      × AreThinnedHere g rows (all_vars ps) x ds f e × IsThinned (λ es. IsSettled g rows parent z (domain x ds) (node ps es e)) cs es
-      × IsThinned (λ qs. IsSettled g rows parent z (domain x ds) (node qs es e)) ps qs × (r ≡ node qs es e)
+  pub IsThinnedHere : Level → List Statement → List Mapping → List Name → Name → Domain → Tree → Tree → Type 0
+  IsThinnedHere level g rows parent z (domain x ds) (node ps cs f) r = (e : Forest) × (es : List Cond) × (qs : List Pattern)
+      × AreThinnedHere level g rows (all_vars ps) x ds f e × IsThinned (λ es. IsSettled level g rows parent z (domain x ds) (node ps es e)) cs es
+      × IsThinned (λ qs. IsSettled level g rows parent z (domain x ds) (node qs es e)) ps qs × (r ≡ node qs es e)
 
-  pub AreThinnedHere : List Statement → List Mapping → List Name → Name → Subdomains → Forest → Forest → Type 0
-  AreThinnedHere g rows parent z ds leaf r = r ≡ leaf
-  AreThinnedHere g rows parent z none (more t f) r = ⊥
-  AreThinnedHere g rows parent z (also d ds) (more t f) r = (u : Tree) × (e : Forest) × IsThinnedHere g rows parent z d t u × AreThinnedHere g rows parent z ds f e × (r ≡ more u e)
+  pub AreThinnedHere : Level → List Statement → List Mapping → List Name → Name → Subdomains → Forest → Forest → Type 0
+  AreThinnedHere level g rows parent z ds leaf r = r ≡ leaf
+  AreThinnedHere level g rows parent z none (more t f) r = ⊥
+  AreThinnedHere level g rows parent z (also d ds) (more t f) r = (u : Tree) × (e : Forest) × IsThinnedHere level g rows parent z d t u × AreThinnedHere level g rows parent z ds f e × (r ≡ more u e)
 
 -- what this pass leaves of a start that is right is kept
 abbrev pub LocalPassKeeps : Type 0
-LocalPassKeeps = (g : List Statement) (w : Wanted) (d : Domain) (vs : List Name) (start t : Tree) → AreExamples w → IsDomainTree w d → AreSelected w vs → IsStartTree g w d start
-    → IsRight Optional g w.rows [] (plain_select vs start) → IsThinnedHere g w.rows [] (label d) d start t → IsKept Optional g w [] (plain_select vs t)
+LocalPassKeeps = (level : Level) (g : List Statement) (w : Wanted) (d : Domain) (vs : List Name) (start t : Tree) → AreExamples w → IsDomainTree w d → AreSelected w vs → IsStartTree level g w d start
+    → IsRight Optional level g w.rows [] (plain_select vs start) → IsThinnedHere level g w.rows [] (label d) d start t → IsKept Optional level g w [] (plain_select vs t)
 
 -- what is asked before a conjunct of a settled node goes
 pub record LocalQuestions : Type 0 where
   -- conditions may go exactly where the node stays shut: no search finds values
-  pub conditions : (g : List Statement) (rows : List Mapping) (parent : List Name) (z x : Name) (ds : Subdomains) (ps : List Pattern) (cs es : List Cond) (f : Forest)
-      → ((c : Cond) → In es c → In cs c) → IsSettled g rows parent z (domain x ds) (node ps cs f)
-      → IsSettled g rows parent z (domain x ds) (node ps es f) ↔ IsShut g rows z x (node ps es f)
+  pub conditions : (level : Level) (g : List Statement) (rows : List Mapping) (parent : List Name) (z x : Name) (ds : Subdomains) (ps : List Pattern) (cs es : List Cond) (f : Forest)
+      → ((c : Cond) → In es c → In cs c) → IsSettled level g rows parent z (domain x ds) (node ps cs f)
+      → IsSettled level g rows parent z (domain x ds) (node ps es f) ↔ IsShut g rows z x (node ps es f)
   -- triples may go exactly where the class stays covered, the node's own conditions stay safe, the children's needs stand, and the node stays shut
-  pub triples : (g : List Statement) (rows : List Mapping) (parent : List Name) (z x : Name) (ds : Subdomains) (ps qs : List Pattern) (cs : List Cond) (f : Forest)
-      → ((p : Pattern) → In qs p → In ps p) → IsSettled g rows parent z (domain x ds) (node ps cs f)
-      → IsSettled g rows parent z (domain x ds) (node qs cs f)
-      ↔ (((v : Name) → IsSeen rows v → AreAlike rows x v → In (all_vars qs) v) × AllByRecursion (IsSafe parent qs) cs × AreOver rows (all_vars qs) ds f × IsShut g rows z x (node qs cs f))
+  pub triples : (level : Level) (g : List Statement) (rows : List Mapping) (parent : List Name) (z x : Name) (ds : Subdomains) (ps qs : List Pattern) (cs : List Cond) (f : Forest)
+      → ((p : Pattern) → In qs p → In ps p) → IsSettled level g rows parent z (domain x ds) (node ps cs f)
+      → IsSettled level g rows parent z (domain x ds) (node qs cs f)
+      ↔ (((v : Name) → IsSeen rows v → AreAlike rows x v → In (all_vars qs) v) × AllByRecursion (IsSafe parent qs) cs × AreOver level rows (all_vars qs) ds f × IsShut g rows z x (node qs cs f))
   -- in the class of one conjunction conjuncts may go exactly where the triples still cover the variables and no unwanted row meets what is left
-  pub conjunction : (g : List Statement) (rows unwanted : List Mapping) (vs : List Name) (ps qs : List Pattern) (cs es : List Cond)
-      → ((p : Pattern) → In qs p → In ps p) → ((c : Cond) → In es c → In cs c) → (vs ≡ [] → ⊥) → IsRight And g rows unwanted (plain_select vs (node ps cs leaf))
-      → IsRight And g rows unwanted (plain_select vs (node qs es leaf))
+  pub conjunction : (level : Level) (g : List Statement) (rows unwanted : List Mapping) (vs : List Name) (ps qs : List Pattern) (cs es : List Cond)
+      → ((p : Pattern) → In qs p → In ps p) → ((c : Cond) → In es c → In cs c) → (vs ≡ [] → ⊥) → IsRight And level g rows unwanted (plain_select vs (node ps cs leaf))
+      → IsRight And level g rows unwanted (plain_select vs (node qs es leaf))
       ↔ (((v : Name) → In vs v → In (all_vars qs) v) × AllByRecursion (λ m. MeetsAll g (plain_select vs (node qs es leaf)) m → ⊥) unwanted)

@@ -1,4 +1,5 @@
 -- What a wanted row says of each node of a query of the class with OPTIONAL groups.
+use Rattle.bye_pattern.specs.declared.level.Level.{Level}
 use Rattle.std.specs.Prelude.{List, [], ◌↔◌}
 use Rattle.std.specs.List.{AllByRecursion}
 use Rattle.bye_terms.specs.Terms.{Statement}
@@ -20,5 +21,5 @@ pub record ByNode (g : List Statement) (root : Tree) (m : Mapping) : Type 0 wher
 
 -- every wanted row is an answer exactly where each says this of each node
 abbrev pub AnswersByNode : Type 0
-AnswersByNode = (g : List Statement) (q : Select) (rows : List Mapping) → InOptional rows q
+AnswersByNode = (level : Level) (g : List Statement) (q : Select) (rows : List Mapping) → InOptional level rows q
     → AllByRecursion (IsAnswer g q.vars (alg q)) rows ↔ AllByRecursion (ByNode g q.tree) rows

@@ -1,4 +1,6 @@
 -- The answers of a query of one group, and when such a query fits.
+use Rattle.bye_pattern.specs.declared.level.Level.TheVariants.{One}
+use Rattle.bye_pattern.specs.declared.level.Level.{Level}
 use Rattle.std.proofs.Common.{◌≡◌, refl, List, [], ◌∷◌, ◌++◌, map, ap, Some, ◌⊎◌, inl, inr, ⊎_elim, sym, ◌∙◌, subst, ◌↔◌}
 use Rattle.std.specs.Option.{is_some}
 use Rattle.std.specs.List.{AllByRecursion}
@@ -75,9 +77,9 @@ turned : (xs ys : List Name) → ((v : Name) → In xs v ↔ In ys v) → (v : N
 turned xs ys same v = ((same v).1, (same v).0)
 
 -- an answer meets the query
-pub answer_meets : (g : List Statement) (q : Select) (m : Mapping) → InAnd q → IsAnswer g q.vars (alg q) m → MeetsAll g q m
+pub answer_meets : (level : Level) → (g : List Statement) (q : Select) (m : Mapping) → InAnd level q → IsAnswer g q.vars (alg q) m → MeetsAll g q m
 unfolding Row
-answer_meets g q m class (n, row, e) =
+answer_meets level g q m class (n, row, e) =
     let ps = own_triples q.tree in
     let parts = row_parts g q.tree q.outer n class.one class.outer row in
     let whole = row_meets g ps n parts.0 in
@@ -90,9 +92,9 @@ answer_meets g q m class (n, row, e) =
     subst (MeetsAll g q) (sym (e ∙ sym (restrict_whole q.vars n exactly))) is
 
 -- and what meets the query is an answer
-pub meets_answer : (g : List Statement) (q : Select) (m : Mapping) → InAnd q → MeetsAll g q m → IsAnswer g q.vars (alg q) m
+pub meets_answer : (level : Level) → (g : List Statement) (q : Select) (m : Mapping) → InAnd level q → MeetsAll g q m → IsAnswer g q.vars (alg q) m
 unfolding Row
-meets_answer g q m class is =
+meets_answer level g q m class is =
     let ps = own_triples q.tree in
     let row = meets_row g ps m (alike q.vars (all_vars ps) m class.selects is.binds) is.triples in
     (m, parts_row g q.tree q.outer m class.one class.outer row (conds_met m (own_conds q.tree) is.conds), restrict_whole q.vars m is.binds)
@@ -113,32 +115,32 @@ some_in [] h = absurd (h refl)
 some_in (x ∷ xs) h = (x, inl refl)
 
 -- the triple patterns of a query that fits are common
-pub fitting_common : (g : List Statement) (header : List Name) (wanted : List Mapping) (q : Select) → AreFull header wanted → InAnd q → Fits g wanted [] q
+pub fitting_common : (level : Level) → (g : List Statement) (header : List Name) (wanted : List Mapping) (q : Select) → AreFull header wanted → InAnd level q → Fits g wanted [] q
     → (p : Pattern) → In (own_triples q.tree) p → IsCommon g header wanted p
-fitting_common g header wanted q full class fits p h =
+fitting_common level g header wanted q full class fits p h =
     let ps = own_triples q.tree in
     let w = some_in wanted full.some_row in
-    let first = answer_meets g q w.0 class (all_in (IsAnswer g q.vars (alg q)) wanted w.0 fits.all w.1) in
+    let first = answer_meets level g q w.0 class (all_in (IsAnswer g q.vars (alg q)) wanted w.0 fits.all w.1) in
     record {
       in_class = all_in IsClassTriple ps p class.triples h;
       over = λ v k. ((all_in (Exactly header) wanted w.0 full.bound w.1) v).0 ((first.binds v).1 ((class.selects v).1 (all_vars_in ps p v h k)));
       holds = all_from (λ m. Meets g m p) wanted (λ m k.
-          all_in (Meets g m) ps p (answer_meets g q m class (all_in (IsAnswer g q.vars (alg q)) wanted m fits.all k)).triples h);
+          all_in (Meets g m) ps p (answer_meets level g q m class (all_in (IsAnswer g q.vars (alg q)) wanted m fits.all k)).triples h);
     }
 
 -- and they contain each variable
-pub fitting_covers : (g : List Statement) (header : List Name) (wanted : List Mapping) (q : Select) → AreFull header wanted → InAnd q → Fits g wanted [] q
+pub fitting_covers : (level : Level) → (g : List Statement) (header : List Name) (wanted : List Mapping) (q : Select) → AreFull header wanted → InAnd level q → Fits g wanted [] q
     → (x : Name) → In header x → IsCovered g header wanted x
-fitting_covers g header wanted q full class fits x h =
+fitting_covers level g header wanted q full class fits x h =
     let w = some_in wanted full.some_row in
-    let first = answer_meets g q w.0 class (all_in (IsAnswer g q.vars (alg q)) wanted w.0 fits.all w.1) in
+    let first = answer_meets level g q w.0 class (all_in (IsAnswer g q.vars (alg q)) wanted w.0 fits.all w.1) in
     let at = in_all_vars (own_triples q.tree) x ((class.selects x).0 ((first.binds x).0 (((all_in (Exactly header) wanted w.0 full.bound w.1) x).1 h))) in
-    (at.0, fitting_common g header wanted q full class fits at.0 at.1, at.2)
+    (at.0, fitting_common level g header wanted q full class fits at.0 at.1, at.2)
 
 pub uncovered_none : (g : List Statement) (header : List Name) (wanted : List Mapping) (x : Name) → AreFull header wanted → In header x
     → IsUncovered g header wanted x → NoFit InAndPlain g wanted []
 uncovered_none g header wanted x full h uncovered q class fits =
-    let c = fitting_covers g header wanted q full class.in_class fits x h in uncovered c.0 c.1 c.2
+    let c = fitting_covers One g header wanted q full class.in_class fits x h in uncovered c.0 c.1 c.2
 
 -- a root that has a variable and safe conditions keeps the rules
 some_pattern : (ps : List Pattern) (v : Name) → In (all_vars ps) v → ps ≡ [] → ⊥
@@ -174,7 +176,7 @@ common_class g header wanted ps full common covered =
 pub common_fits : (g : List Statement) (header : List Name) (wanted : List Mapping) (ps : List Pattern) → AreFull header wanted → AreCommon g header wanted ps
     → InAndPlain (common_query header ps) → Fits g wanted [] (common_query header ps)
 common_fits g header wanted ps full common class = record {
-  all = all_from (IsAnswer g header (alg (common_query header ps))) wanted (λ m k. meets_answer g (common_query header ps) m class.in_class (record {
+  all = all_from (IsAnswer g header (alg (common_query header ps))) wanted (λ m k. meets_answer One g (common_query header ps) m class.in_class (record {
     binds = all_in (Exactly header) wanted m full.bound k;
     triples = all_from (Meets g m) ps (λ p h. all_in (λ m. Meets g m p) wanted m ((common p).0 h).holds k);
     conds = tt;
@@ -213,29 +215,29 @@ none_uncovered g header wanted ps full common none =
     (some_uncovered g header wanted ps common header)
 
 -- fitting, by meeting
-fits_meets_each : (g : List Statement) (q : Select) → InAnd q → (rows : List Mapping) → AllByRecursion (IsAnswer g q.vars (alg q)) rows → AllByRecursion (MeetsAll g q) rows
-fits_meets_each g q class [] all = tt
-fits_meets_each g q class (m ∷ rows) all = (answer_meets g q m class all.0, fits_meets_each g q class rows all.1)
+fits_meets_each : (level : Level) → (g : List Statement) (q : Select) → InAnd level q → (rows : List Mapping) → AllByRecursion (IsAnswer g q.vars (alg q)) rows → AllByRecursion (MeetsAll g q) rows
+fits_meets_each level g q class [] all = tt
+fits_meets_each level g q class (m ∷ rows) all = (answer_meets level g q m class all.0, fits_meets_each level g q class rows all.1)
 
-meets_fits_each : (g : List Statement) (q : Select) → InAnd q → (rows : List Mapping) → AllByRecursion (MeetsAll g q) rows → AllByRecursion (IsAnswer g q.vars (alg q)) rows
-meets_fits_each g q class [] all = tt
-meets_fits_each g q class (m ∷ rows) all = (meets_answer g q m class all.0, meets_fits_each g q class rows all.1)
+meets_fits_each : (level : Level) → (g : List Statement) (q : Select) → InAnd level q → (rows : List Mapping) → AllByRecursion (MeetsAll g q) rows → AllByRecursion (IsAnswer g q.vars (alg q)) rows
+meets_fits_each level g q class [] all = tt
+meets_fits_each level g q class (m ∷ rows) all = (meets_answer level g q m class all.0, meets_fits_each level g q class rows all.1)
 
-none_meets : (g : List Statement) (q : Select) → InAnd q → (rows : List Mapping) → AllByRecursion (λ m. IsAnswer g q.vars (alg q) m → ⊥) rows → AllByRecursion (λ m. MeetsAll g q m → ⊥) rows
-none_meets g q class [] all = tt
-none_meets g q class (m ∷ rows) all = ((λ h. all.0 (meets_answer g q m class h)), none_meets g q class rows all.1)
+none_meets : (level : Level) → (g : List Statement) (q : Select) → InAnd level q → (rows : List Mapping) → AllByRecursion (λ m. IsAnswer g q.vars (alg q) m → ⊥) rows → AllByRecursion (λ m. MeetsAll g q m → ⊥) rows
+none_meets level g q class [] all = tt
+none_meets level g q class (m ∷ rows) all = ((λ h. all.0 (meets_answer level g q m class h)), none_meets level g q class rows all.1)
 
-none_answers : (g : List Statement) (q : Select) → InAnd q → (rows : List Mapping) → AllByRecursion (λ m. MeetsAll g q m → ⊥) rows → AllByRecursion (λ m. IsAnswer g q.vars (alg q) m → ⊥) rows
-none_answers g q class [] all = tt
-none_answers g q class (m ∷ rows) all = ((λ h. all.0 (answer_meets g q m class h)), none_answers g q class rows all.1)
+none_answers : (level : Level) → (g : List Statement) (q : Select) → InAnd level q → (rows : List Mapping) → AllByRecursion (λ m. MeetsAll g q m → ⊥) rows → AllByRecursion (λ m. IsAnswer g q.vars (alg q) m → ⊥) rows
+none_answers level g q class [] all = tt
+none_answers level g q class (m ∷ rows) all = ((λ h. all.0 (answer_meets level g q m class h)), none_answers level g q class rows all.1)
 
-pub fits_meets : (g : List Statement) (wanted unwanted : List Mapping) (q : Select) → InAnd q → Fits g wanted unwanted q
+pub fits_meets : (level : Level) → (g : List Statement) (wanted unwanted : List Mapping) (q : Select) → InAnd level q → Fits g wanted unwanted q
     → AllByRecursion (MeetsAll g q) wanted × AllByRecursion (λ m. MeetsAll g q m → ⊥) unwanted
-fits_meets g wanted unwanted q class fits = (fits_meets_each g q class wanted fits.all, none_meets g q class unwanted fits.none)
+fits_meets level g wanted unwanted q class fits = (fits_meets_each level g q class wanted fits.all, none_meets level g q class unwanted fits.none)
 
-pub meets_fits : (g : List Statement) (wanted unwanted : List Mapping) (q : Select) → InAnd q → AllByRecursion (MeetsAll g q) wanted × AllByRecursion (λ m. MeetsAll g q m → ⊥) unwanted
+pub meets_fits : (level : Level) → (g : List Statement) (wanted unwanted : List Mapping) (q : Select) → InAnd level q → AllByRecursion (MeetsAll g q) wanted × AllByRecursion (λ m. MeetsAll g q m → ⊥) unwanted
     → Fits g wanted unwanted q
-meets_fits g wanted unwanted q class h = record { all = meets_fits_each g q class wanted h.0; none = none_answers g q class unwanted h.1 }
+meets_fits level g wanted unwanted q class h = record { all = meets_fits_each level g q class wanted h.0; none = none_answers level g q class unwanted h.1 }
 
 -- without a conjunct
 less_all : {X : Type 0} (P : X → Type 0) (xs ys : List X) → Less xs ys → AllByRecursion P xs → AllByRecursion P ys
@@ -255,13 +257,13 @@ drop_meets g m (node ps cs f) u one (inr (inl (es, less, e))) ts ds =
     subst (λ u. AllByRecursion (Meets g m) (own_triples u) × AllByRecursion (MeetsCond m) (own_conds u)) (sym e) (ts, less_all (MeetsCond m) cs es less ds)
 drop_meets g m (node ps cs f) u one (inr (inr (e, drops, is))) ts ds = absurd (no_drop_below f e one drops)
 
-pub dropped_answer : (g : List Statement) (q r : Select) (m : Mapping) → InAnd q → InAnd r → DropsConjunct q r → IsAnswer g q.vars (alg q) m → IsAnswer g r.vars (alg r) m
-dropped_answer g q r m class rest (t, drops, e) answer =
-    let is = answer_meets g q m class answer in
+pub dropped_answer : (level : Level) → (g : List Statement) (q r : Select) (m : Mapping) → InAnd level q → InAnd level r → DropsConjunct q r → IsAnswer g q.vars (alg q) m → IsAnswer g r.vars (alg r) m
+dropped_answer level g q r m class rest (t, drops, e) answer =
+    let is = answer_meets level g q m class answer in
     let w = drop_meets g m q.tree t class.one drops is.triples is.conds in
     let tree : r.tree ≡ t = ap (λ (s : Select). s.tree) e in
     let vars : r.vars ≡ q.vars = ap (λ (s : Select). s.vars) e in
-    meets_answer g r m rest (record {
+    meets_answer level g r m rest (record {
       binds = subst (λ vs. Exactly vs m) (sym vars) is.binds;
       triples = subst (λ t. AllByRecursion (Meets g m) (own_triples t)) (sym tree) w.0;
       conds = subst (λ t. AllByRecursion (MeetsCond m) (own_conds t)) (sym tree) w.1;

@@ -1,4 +1,5 @@
 -- At which nodes of a well-designed tree a variable is new, and which rows bind it.
+use Rattle.bye_pattern.specs.declared.level.Level.{Level}
 use Rattle.std.proofs.Common.{◌≡◌, refl, ℕ, zero, suc, List, [], ◌∷◌, ◌++◌, inl, inr, sym, ◌∙◌, subst}
 use Rattle.bye_terms.specs.Members.{In}
 use Rattle.bye_terms.proofs.Members.{in_left, in_right}
@@ -59,9 +60,9 @@ within_then [] x y z a b = tt
 within_then (m ∷ rows) x y z a b = ((λ h. b.0 (a.0 h)), within_then rows x y z a.1 b.1)
 
 -- variables of one class are new at one node
-pub class_at_one : (rows : List Mapping) (q : Select) → InOptional rows q → (p : List Name) (u : Tree) (r : List Name) (t : Tree) (x y : Name)
+pub class_at_one : (level : Level) → (rows : List Mapping) (q : Select) → InOptional level rows q → (p : List Name) (u : Tree) (r : List Name) (t : Tree) (x y : Name)
     → IsNode [] q.tree p u → IsNode [] q.tree r t → IsNewAt p u x → IsNewAt r t y → AreAlike rows x y → (p ≡ r) × (u ≡ t)
-class_at_one rows q is p u r t x y h k new also same =
+class_at_one level rows q is p u r t x y h k new also same =
     let c = is.classes p u h in
     let own = (c.1.1 x).0 new in
     let here : IsNewAt p u y = (c.1.1 y).1 (within_then rows c.0 x y own.0 same.0, within_then rows y x c.0 same.1 own.1) in

@@ -1,4 +1,5 @@
 -- The worked examples of claims.
+use Rattle.bye_pattern.specs.declared.level.Level.TheVariants.{One}
 use Rattle.std.proofs.Common.{◌≡◌, refl, Bool, true, [], ◌∷◌, Some, None, ◌⊎◌, inl, inr, ⊎_elim, sym, ◌∙◌, ap, subst, codes}
 use Rattle.bye_terms.specs.declared.term.Term.{Term}
 use Rattle.bye_terms.specs.declared.term.Term.TheVariants.{Blank}
@@ -89,10 +90,11 @@ in_x v h = ⊎_elim (λ e. e) (λ k. absurd k) h
 person_class : IsClassTriple (is_person (Var x))
 person_class = record { variable = (x, inl refl); subject = tt; predicate = refl; object = refl }
 
-admitted_conditions : (d : Cond) → IsCommonCond (x ∷ []) both_rows d → MeetsCond (alone c) d
+admitted_conditions : (d : Cond) → IsCommonCond One (x ∷ []) both_rows d → MeetsCond (alone c) d
 admitted_conditions (conds.Bound v) h =
     subst (λ v. MeetsCond (alone c) (conds.Bound v)) (in_x v (h.over v (inl refl))) ((λ u k. (row_exactly ((x, c) ∷ []) u).1 k), refl)
 admitted_conditions (conds.SameVar v u) h = absurd (h.in_class (sym (in_x v (h.over v (inl refl))) ∙ in_x u (h.over u (inr (inl refl)))))
+admitted_conditions (conds.KindOf kind v) h = absurd h.in_class
 admitted_conditions (conds.SameConst v t) h =
     let at = in_x v (h.over v (inl refl)) in
     let one = subst (λ v. Holds (alone a) (conds.SameConst v t)) (sym at) h.holds.0.1 in
@@ -182,7 +184,7 @@ value_binds v = (
 extended_binds : (v : Name) → (x ≡ v) ⊎ (m ≡ v) → Binds extended v
 extended_binds v h = ⊎_elim (λ e. subst (Binds extended) e refl) (λ e. subst (Binds extended) e refl) h
 
-extended_conditions : (d : Cond) → IsCommonCondAt some_mails m d → MeetsCond extended d
+extended_conditions : (d : Cond) → IsCommonCondAt One some_mails m d → MeetsCond extended d
 extended_conditions (conds.Bound v) h = let at = up_m v (h.over v (inl refl)) in (
   (λ u k. extended_binds u (⊎_elim (λ e. subst (λ u. (x ≡ u) ⊎ (m ≡ u)) e at) (λ n. absurd n) k)),
   ⊎_elim (λ e. subst (λ v. Holds extended (conds.Bound v)) e refl) (λ e. subst (λ v. Holds extended (conds.Bound v)) e refl) at,
@@ -205,6 +207,7 @@ extended_conditions (conds.SameVar v u) h =
 
     differ_back : Holds (row_mapping first_row) (conds.SameVar m x) → ⊥
     differ_back k = cc
+extended_conditions (conds.KindOf kind v) h = absurd h.in_class
 extended_conditions (conds.SameConst v t) h =
     let one = (h.holds.0 refl).1 in
     let other = (h.holds.1.0 refl).1 in
@@ -246,7 +249,7 @@ unfolding of_terms
 extension = record {
   shows = record {
     goes = tt;
-    shown = record {
+    shown = ((refl, tt), record {
       seen = (row_mapping first_row, inl refl, refl);
       row = row_mapping third_row;
       row_at = refl;
@@ -258,10 +261,14 @@ extension = record {
           ((refl, refl), ((refl, refl), ((refl, refl), ((refl, refl), ((refl, refl), ((refl, refl), tt))))))
           common.in_class (common.holds.0 refl) (common.holds.0 refl, (common.holds.1.0 refl, tt)));
       conditions = extended_conditions;
-    };
+    });
   };
-  other_value = λ h. other h.shown.row h.shown.row_at (h.shown.triples has_mail mail_common);
+  other_value = λ h. other h.shown.1.row h.shown.1.row_at (h.shown.1.triples has_mail mail_common);
+  twice = λ h. bound_twice h.shown.0.0;
 }
   where
+    bound_twice : row_mapping ((m, text (codes "m9")) ∷ []) m ≡ None → ⊥
+    bound_twice e = cc
+
     other : (row : Mapping) → row_mapping third_row ≡ row → Meets mailed (merge row (row_mapping ((m, text (codes "m9")) ∷ []))) has_mail → ⊥
     other row e (f, at, is) = no_such_mail f at ((λ i. slot_under (merge (e i) (row_mapping ((m, text (codes "m9")) ∷ []))) (Var m)) ∙ is.o)

@@ -1,4 +1,5 @@
 -- The worked example of a query that is kept.
+use Rattle.bye_pattern.specs.declared.level.Level.TheVariants.{One}
 use Rattle.std.proofs.Common.{◌≡◌, refl, true, List, [], ◌∷◌, Option, Some, None, inl, inr, ⊎_elim, sym, ◌∙◌, ap, subst, ◌↔◌}
 use Rattle.std.specs.List.{AllByRecursion}
 use Rattle.bye_terms.specs.declared.term.Term.{Term}
@@ -108,15 +109,16 @@ patterns p = (
   (λ h. listed known ((x, ada) ∷ []) (((x, ada) ∷ []) ∷ []) p ((refl, refl), ((refl, refl), ((refl, refl), tt))) h.in_class (h.holds.0 refl) (h.holds.0 refl, tt)),
 )
 
-common_condition : (d : Cond) → IsClassCond d → ((v : Name) → In (cond_vars d) v → x ≡ v) → MeetsCond (person_of ada) d → IsCommonCondAt (person_of ada ∷ []) x d
+common_condition : (d : Cond) → IsClassCond One d → ((v : Name) → In (cond_vars d) v → x ≡ v) → MeetsCond (person_of ada) d → IsCommonCondAt One (person_of ada ∷ []) x d
 common_condition d class over meets = record { in_class = class; over = λ v h. within_x v (over v h); holds = ((λ h. meets), tt) }
 
 binds_x : (v : Name) → In (x ∷ []) v → Binds (person_of ada) v
 binds_x v h = (ada_row v).1 h
 
-only_conditions : (d : Cond) → IsCommonCondAt (person_of ada ∷ []) x d → In (conds.Bound x ∷ is_ada ∷ []) d
+only_conditions : (d : Cond) → IsCommonCondAt One (person_of ada ∷ []) x d → In (conds.Bound x ∷ is_ada ∷ []) d
 only_conditions (conds.Bound v) h = inl (ap conds.Bound (is_x v (h.over v (inl refl))))
 only_conditions (conds.SameVar v u) h = absurd (h.in_class (sym (is_x v (h.over v (inl refl))) ∙ is_x u (h.over u (inr (inl refl)))))
+only_conditions (conds.KindOf kind v) h = absurd h.in_class
 only_conditions (conds.SameConst v t) h =
     let at = is_x v (h.over v (inl refl)) in
     let same = subst (λ v. Holds (person_of ada) (conds.SameConst v t)) (sym at) (h.holds.0 refl).1 in
@@ -125,11 +127,11 @@ only_conditions (conds.SameConst v t) h =
     some_true : (c : _) → Some c ≡ Some true → c ≡ true
     some_true c e = cc
 
-conditions : (d : Cond) → In (conds.Bound x ∷ is_ada ∷ []) d ↔ (IsCommonCondAt (person_of ada ∷ []) x d × IsInForm (x ∷ []) d)
+conditions : (d : Cond) → In (conds.Bound x ∷ is_ada ∷ []) d ↔ (IsCommonCondAt One (person_of ada ∷ []) x d × IsInForm (x ∷ []) d)
 conditions d = (
   (λ h. ⊎_elim
-      (λ e. subst (λ d. IsCommonCondAt (person_of ada ∷ []) x d × IsInForm (x ∷ []) d) e (common_condition (conds.Bound x) tt in_x (binds_x, refl), tt))
-      (λ k. ⊎_elim (λ e. subst (λ d. IsCommonCondAt (person_of ada ∷ []) x d × IsInForm (x ∷ []) d) e (common_condition is_ada refl in_x (binds_x, refl), tt)) (λ n. absurd n) k)
+      (λ e. subst (λ d. IsCommonCondAt One (person_of ada ∷ []) x d × IsInForm (x ∷ []) d) e (common_condition (conds.Bound x) tt in_x (binds_x, refl), tt))
+      (λ k. ⊎_elim (λ e. subst (λ d. IsCommonCondAt One (person_of ada ∷ []) x d × IsInForm (x ∷ []) d) e (common_condition is_ada refl in_x (binds_x, refl), tt)) (λ n. absurd n) k)
       h),
   (λ h. only_conditions d h.0),
 )
@@ -138,7 +140,7 @@ constant_of : Slot → Option Term
 constant_of (Var v) = None
 constant_of (Const t) = Some t
 
-start : IsStartNode known examples x (was_born ∷ knows_bob ∷ []) (conds.Bound x ∷ is_ada ∷ [])
+start : IsStartNode One known examples x (was_born ∷ knows_bob ∷ []) (conds.Bound x ∷ is_ada ∷ [])
 unfolding constant_of Rattle.bye_pattern.specs.Printed.root_line lib.Utf8.encode
 start = record {
   triples = patterns;
@@ -148,8 +150,8 @@ start = record {
 }
 
 -- queries of x alone
-class_of : (p : Pattern) (ps : List Pattern) (cs : List Cond) → AllByRecursion IsClassTriple (p ∷ ps) → AllByRecursion IsClassCond cs → AllByRecursion (IsSafe [] (p ∷ ps)) cs
-    → In (all_vars (p ∷ ps)) x → ((v : Name) → In (all_vars (p ∷ ps)) v → x ≡ v) → InAnd (query (p ∷ ps) cs)
+class_of : (p : Pattern) (ps : List Pattern) (cs : List Cond) → AllByRecursion IsClassTriple (p ∷ ps) → AllByRecursion (IsClassCond One) cs → AllByRecursion (IsSafe [] (p ∷ ps)) cs
+    → In (all_vars (p ∷ ps)) x → ((v : Name) → In (all_vars (p ∷ ps)) v → x ≡ v) → InAnd One (query (p ∷ ps) cs)
 class_of p ps cs triples conditions safe there over = record {
   distinct = refl;
   outer = refl;
@@ -171,11 +173,11 @@ adas : (v : Name) → In (x ∷ []) v → Binds (person_of ada) v
 adas v h = (ada_row v).1 h
 
 -- with the condition, with both patterns, and with the first alone the query is right
-right_query : (p : Pattern) (ps : List Pattern) (cs : List Cond) → InAnd (query (p ∷ ps) cs) → AllByRecursion (Meets known (person_of ada)) (p ∷ ps) → AllByRecursion (MeetsCond (person_of ada)) cs
-    → (MeetsAll known (query (p ∷ ps) cs) (person_of eve) → ⊥) → IsRight And known (person_of ada ∷ []) (person_of eve ∷ []) (query (p ∷ ps) cs)
+right_query : (p : Pattern) (ps : List Pattern) (cs : List Cond) → InAnd One (query (p ∷ ps) cs) → AllByRecursion (Meets known (person_of ada)) (p ∷ ps) → AllByRecursion (MeetsCond (person_of ada)) cs
+    → (MeetsAll known (query (p ∷ ps) cs) (person_of eve) → ⊥) → IsRight And One known (person_of ada ∷ []) (person_of eve ∷ []) (query (p ∷ ps) cs)
 right_query p ps cs class triples conditions kept_away = record {
   in_class = class;
-  fits = meets_fits known (person_of ada ∷ []) (person_of eve ∷ []) (query (p ∷ ps) cs) class ((record { binds = ada_row; triples = triples; conds = conditions }, tt), (kept_away, tt));
+  fits = meets_fits One known (person_of ada ∷ []) (person_of eve ∷ []) (query (p ∷ ps) cs) class ((record { binds = ada_row; triples = triples; conds = conditions }, tt), (kept_away, tt));
 }
 
 -- Eve is in no triple with born
@@ -185,21 +187,21 @@ eve_not_born (f, inr (inl e), is) = values_differ born knows refl (is.p ∙ ap (
 eve_not_born (f, inr (inr (inl e)), is) = values_differ born knows refl (is.p ∙ ap (λ (f : Statement). Some f.p) (sym e))
 eve_not_born (f, inr (inr (inr k)), is) = k
 
-with_condition : IsRight And known (person_of ada ∷ []) (person_of eve ∷ []) (query (was_born ∷ knows_bob ∷ []) (is_ada ∷ []))
+with_condition : IsRight And One known (person_of ada ∷ []) (person_of eve ∷ []) (query (was_born ∷ knows_bob ∷ []) (is_ada ∷ []))
 with_condition = right_query was_born (knows_bob ∷ []) (is_ada ∷ [])
     (class_of was_born (knows_bob ∷ []) (is_ada ∷ []) (born_class, (knows_class, tt)) (refl, tt) ((λ v h. inl (inl (in_x v h))), tt) (inl refl) both_vars)
     (ada_born, (ada_knows, tt)) ((adas, refl), tt) (λ is. eve_not_born is.triples.0)
 
-both_right : IsRight And known (person_of ada ∷ []) (person_of eve ∷ []) (query (was_born ∷ knows_bob ∷ []) [])
+both_right : IsRight And One known (person_of ada ∷ []) (person_of eve ∷ []) (query (was_born ∷ knows_bob ∷ []) [])
 both_right = right_query was_born (knows_bob ∷ []) []
     (class_of was_born (knows_bob ∷ []) [] (born_class, (knows_class, tt)) tt tt (inl refl) both_vars) (ada_born, (ada_knows, tt)) tt (λ is. eve_not_born is.triples.0)
 
-born_right : IsRight And known (person_of ada ∷ []) (person_of eve ∷ []) (query (was_born ∷ []) [])
+born_right : IsRight And One known (person_of ada ∷ []) (person_of eve ∷ []) (query (was_born ∷ []) [])
 born_right = right_query was_born [] [] (class_of was_born [] [] (born_class, tt) tt tt (inl refl) born_vars) (ada_born, tt) tt (λ is. eve_not_born is.triples.0)
 
 -- with the second alone it is not, since Eve is then an answer
-knows_wrong : IsRight And known (person_of ada ∷ []) (person_of eve ∷ []) (query (knows_bob ∷ []) []) → ⊥
-knows_wrong right = right.fits.none.0 (meets_answer known (query (knows_bob ∷ []) []) (person_of eve) right.in_class (record { binds = eve_row; triples = (eve_knows, tt); conds = tt }))
+knows_wrong : IsRight And One known (person_of ada ∷ []) (person_of eve ∷ []) (query (knows_bob ∷ []) []) → ⊥
+knows_wrong right = right.fits.none.0 (meets_answer One known (query (knows_bob ∷ []) []) (person_of eve) right.in_class (record { binds = eve_row; triples = (eve_knows, tt); conds = tt }))
 
 pub tried_first : ConditionsAreTriedFirst
 tried_first = record {

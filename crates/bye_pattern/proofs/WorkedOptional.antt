@@ -1,4 +1,5 @@
 -- The worked examples of written texts and of the class with OPTIONAL groups.
+use Rattle.bye_pattern.specs.declared.level.Level.TheVariants.{One}
 use Rattle.std.proofs.Common.{◌≡◌, refl, List, [], ◌∷◌, ◌⊎◌, inl, inr, ⊎_elim, sym, ◌∙◌, subst, codes, ◌↔◌}
 use Rattle.bye_terms.specs.Members.{In}
 use Rattle.std.specs.List.{AllByRecursion}
@@ -136,7 +137,7 @@ unfolding OrderedAll
 all_ordered = two_nodes (λ p u. OrderedAll p u) (two_nodes (λ r t. Ordered [] mails.tree r t) root_root root_inner) (two_nodes (λ r t. Ordered (x ∷ []) inner r t) inner_root inner_inner)
 
 Conjuncts : List Name → Tree → Type 0
-Conjuncts p u = AllByRecursion IsClassTriple (own_triples u) × AllByRecursion IsClassCond (own_conds u)
+Conjuncts p u = AllByRecursion IsClassTriple (own_triples u) × AllByRecursion (IsClassCond One) (own_conds u)
 
 conjuncts : (p : List Name) (u : Tree) → IsNode [] mails.tree p u → Conjuncts p u
 unfolding Conjuncts
@@ -144,7 +145,7 @@ conjuncts = two_nodes (λ p u. Conjuncts p u)
     ((record { variable = (x, inl refl); subject = tt; predicate = refl; object = refl }, tt), tt)
     ((record { variable = (x, inl refl); subject = tt; predicate = refl; object = tt }, tt), tt)
 
-of_class : InOptional rows mails
+of_class : InOptional One rows mails
 unfolding OrderedAll Ordered Conjuncts
 of_class = record {
   distinct = refl;

@@ -4,9 +4,10 @@ use Rattle.std.specs.List.{AllByRecursion}
 use Rattle.bye_terms.specs.Terms.{Statement}
 use Rattle.bye_terms.specs.Members.{In}
 use Rattle.bye_pattern.specs.declared.cond.Cond.{Cond}
+use Rattle.bye_pattern.specs.declared.level.Level.{Level}
 use Rattle.bye_pattern.specs.declared.class.Class.{Class}
 use Rattle.bye_pattern.specs.declared.class.Class.TheVariants.{And, Optional}
-use Rattle.bye_table.specs.Mappings.{Name, Mapping, Pairs, row_mapping, Binds, Exactly, merge}
+use Rattle.bye_table.specs.Mappings.{Name, Mapping, Pairs, row_mapping, NoRepeat, Binds, Exactly, merge}
 use Rattle.bye_pattern.specs.Patterns.{Pattern, vars, Meets}
 use Rattle.bye_pattern.specs.Conjuncts.{MeetsCond}
 use Rattle.bye_pattern.specs.Common.{IsCommon, IsCommonCond}
@@ -28,8 +29,9 @@ pub data Claim : Type 0 where
   -- a wanted row that does not bind the variable can be extended by these values
   Extension : ℕ → Name → Pairs → Claim
 
--- a certificate: the class that it is about, and its claim
+-- a certificate: the level and the class that it is about, and its claim
 pub record CertificateValue : Type 0 where
+  pub level : Level
   pub class : Class
   pub claim : Claim
 
@@ -79,7 +81,7 @@ pub record ShowsUncovered (g : List Statement) (rows : List Mapping) (x : Name) 
   pub none : (p : Pattern) → IsCommonAt g rows x p → In (vars p) x → ⊥
 
 -- an unwanted row meets whatever all wanted rows meet
-pub record ShowsAdmitted (g : List Statement) (rows unwanted : List Mapping) (j : ℕ) : Type 0 where
+pub record ShowsAdmitted (level : Level) (g : List Statement) (rows unwanted : List Mapping) (j : ℕ) : Type 0 where
   -- the one domain of all wanted rows, which is that of the unwanted row too
   pub domain : List Name
   pub same : AllByRecursion (Exactly domain) rows
@@ -88,10 +90,10 @@ pub record ShowsAdmitted (g : List Statement) (rows unwanted : List Mapping) (j 
   pub of_row : Exactly domain row
   -- the row meets whatever over that domain all wanted rows meet
   pub triples : (p : Pattern) → IsCommon g domain rows p → Meets g row p
-  pub conditions : (c : Cond) → IsCommonCond domain rows c → MeetsCond row c
+  pub conditions : (c : Cond) → IsCommonCond level domain rows c → MeetsCond row c
 
 -- a wanted row that lacks x is extended by values that meet whatever is common at x
-pub record ShowsExtension (g : List Statement) (rows : List Mapping) (i : ℕ) (x : Name) (values : Mapping) : Type 0 where
+pub record ShowsExtension (level : Level) (g : List Statement) (rows : List Mapping) (i : ℕ) (x : Name) (values : Mapping) : Type 0 where
   pub seen : IsSeen rows x
   pub row : Mapping
   pub row_at : IsRowAt rows i row
@@ -103,18 +105,18 @@ pub record ShowsExtension (g : List Statement) (rows : List Mapping) (i : ℕ) (
   pub binds : (v : Name) → (Binds values v → AreAlike rows x v) × (AreAlike rows x v → Binds values v)
   -- with them the row meets whatever over Up(x) all wanted rows binding x meet
   pub triples : (p : Pattern) → IsCommonAt g rows x p → Meets g (merge row values) p
-  pub conditions : (c : Cond) → IsCommonCondAt rows x c → MeetsCond (merge row values) c
+  pub conditions : (c : Cond) → IsCommonCondAt level rows x c → MeetsCond (merge row values) c
 
--- the claim holds of the examples
-abbrev pub IsShown : List Statement → List Mapping → List Mapping → Claim → Type 0
-IsShown g rows unwanted (Domains i j x) = ShowsDomains rows i j x
-IsShown g rows unwanted NoRoot = ShowsNoRoot rows
-IsShown g rows unwanted (Fork x y z) = ShowsFork rows x y z
-IsShown g rows unwanted (Uncovered x) = ShowsUncovered g rows x
-IsShown g rows unwanted (Admitted j) = ShowsAdmitted g rows unwanted j
-IsShown g rows unwanted (Extension i x values) = ShowsExtension g rows i x (row_mapping values)
+-- the claim holds of the examples; the values of an extension bind no variable twice
+abbrev pub IsShown : Level → List Statement → List Mapping → List Mapping → Claim → Type 0
+IsShown level g rows unwanted (Domains i j x) = ShowsDomains rows i j x
+IsShown level g rows unwanted NoRoot = ShowsNoRoot rows
+IsShown level g rows unwanted (Fork x y z) = ShowsFork rows x y z
+IsShown level g rows unwanted (Uncovered x) = ShowsUncovered g rows x
+IsShown level g rows unwanted (Admitted j) = ShowsAdmitted level g rows unwanted j
+IsShown level g rows unwanted (Extension i x values) = NoRepeat values × ShowsExtension level g rows i x (row_mapping values)
 
 -- the claim goes with its class, and holds of the examples
 pub record Shows (g : List Statement) (rows unwanted : List Mapping) (c : CertificateValue) : Type 0 where
   pub goes : GoesWith c.class c.claim
-  pub shown : IsShown g rows unwanted c.claim
+  pub shown : IsShown c.level g rows unwanted c.claim

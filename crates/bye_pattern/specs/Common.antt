@@ -5,6 +5,7 @@ use Rattle.bye_terms.specs.Terms.{Statement}
 use Rattle.bye_terms.specs.Members.{In}
 use Rattle.bye_table.specs.Mappings.{Name, Mapping}
 use Rattle.bye_pattern.specs.Patterns.{Pattern, vars, Meets}
+use Rattle.bye_pattern.specs.declared.level.Level.{Level}
 use Rattle.bye_pattern.specs.declared.cond.Cond.{Cond}
 use Rattle.bye_pattern.specs.Conditions.{cond_vars}
 use Rattle.bye_pattern.specs.Conjuncts.{MeetsCond}
@@ -17,8 +18,8 @@ pub record IsCommon (g : List Statement) (header : List Name) (wanted : List Map
   pub holds : AllByRecursion (λ m. Meets g m p) wanted
 
 -- a condition of the class over the header's variables, with any term as constant, that each wanted row meets
-pub record IsCommonCond (header : List Name) (wanted : List Mapping) (c : Cond) : Type 0 where
-  pub in_class : IsClassCond c
+pub record IsCommonCond (level : Level) (header : List Name) (wanted : List Mapping) (c : Cond) : Type 0 where
+  pub in_class : IsClassCond level c
   pub over : (v : Name) → In (cond_vars c) v → In header v
   pub holds : AllByRecursion (λ m. MeetsCond m c) wanted
 

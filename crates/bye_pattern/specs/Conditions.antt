@@ -6,16 +6,12 @@ use Rattle.bye_terms.specs.declared.term.Term.{Term}
 use Rattle.bye_terms.specs.declared.term.Term.TheVariants.{Iri, Blank, Lit}
 use Rattle.bye_pattern.specs.declared.slot.Slot.{Slot}
 use Rattle.bye_pattern.specs.declared.slot.Slot.TheVariants.{Var, Const}
+use Rattle.bye_pattern.specs.declared.kind.Kind.{Kind}
+use Rattle.bye_pattern.specs.declared.kind.Kind.TheVariants as kinds
 use Rattle.bye_pattern.specs.declared.cond.Cond.{Cond}
 use Rattle.bye_pattern.specs.declared.cond.Cond.TheVariants as conds
 use Rattle.bye_table.specs.Mappings.{Name, Mapping}
 use Rattle.bye_pattern.specs.Patterns.{slot_under}
-
--- what a kind test asks for
-pub data Kind : Type 0 where
-  AnIri : Kind
-  ABlank : Kind
-  ALiteral : Kind
 
 -- an expression of a FILTER
 pub data Expr : Type 0 where
@@ -31,6 +27,7 @@ abbrev pub cond_expr : Cond → Expr
 cond_expr (conds.Bound v) = IsBound v
 cond_expr (conds.SameVar v w) = Same (Var v) (Var w)
 cond_expr (conds.SameConst v c) = Same (Var v) (Const c)
+cond_expr (conds.KindOf kind v) = KindOf kind (Var v)
 
 -- whether two tags are the same, or both are missing
 abbrev pub same_option : Option (List ℕ) → Option (List ℕ) → Bool
@@ -48,9 +45,9 @@ same_term _ _ = false
 
 -- whether the term is of the kind
 abbrev pub is_kind : Kind → Term → Bool
-is_kind AnIri (Iri t) = true
-is_kind ABlank (Blank t) = true
-is_kind ALiteral (Lit t) = true
+is_kind kinds.Iri (Iri t) = true
+is_kind kinds.Blank (Blank t) = true
+is_kind kinds.Literal (Lit t) = true
 is_kind _ _ = false
 
 -- sameTerm: an error where a place has no term
@@ -114,3 +111,4 @@ abbrev pub cond_vars : Cond → List Name
 cond_vars (conds.Bound v) = v ∷ []
 cond_vars (conds.SameVar v w) = v ∷ w ∷ []
 cond_vars (conds.SameConst v c) = v ∷ []
+cond_vars (conds.KindOf kind v) = v ∷ []

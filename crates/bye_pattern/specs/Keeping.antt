@@ -2,6 +2,7 @@
 use Rattle.std.specs.Prelude.{◌≡◌, List, [], ◌∷◌, ◌⊎◌}
 use Rattle.bye_terms.specs.Terms.{Statement}
 use Rattle.bye_pattern.specs.declared.cond.Cond.{Cond}
+use Rattle.bye_pattern.specs.declared.level.Level.{Level}
 use Rattle.bye_pattern.specs.declared.class.Class.{Class}
 use Rattle.bye_pattern.specs.declared.class.Class.TheVariants.{And, Optional}
 use Rattle.bye_table.specs.Mappings.{Name, Mapping}
@@ -15,19 +16,19 @@ use Rattle.bye_table.specs.Domains.{Wanted, AreSelected}
 use Rattle.bye_table.specs.DomainTrees.{Domain, domain, none, IsDomainTree}
 use Rattle.bye_pattern.specs.Starting.{IsStartTree}
 
--- a query of the class, over the wanted rows where it is that with OPTIONAL groups
-abbrev pub IsOfClass : Class → List Mapping → Select → Type 0
-IsOfClass And rows q = InAnd q
-IsOfClass Optional rows q = InOptional rows q
+-- a query of the class at the level, over the wanted rows where it is that with OPTIONAL groups
+abbrev pub IsOfClass : Class → Level → List Mapping → Select → Type 0
+IsOfClass And level rows q = InAnd level q
+IsOfClass Optional level rows q = InOptional level rows q
 
 -- of the class, and fits
-pub record IsRight (class : Class) (g : List Statement) (rows unwanted : List Mapping) (q : Select) : Type 0 where
-  pub in_class : IsOfClass class rows q
+pub record IsRight (class : Class) (level : Level) (g : List Statement) (rows unwanted : List Mapping) (q : Select) : Type 0 where
+  pub in_class : IsOfClass class level rows q
   pub fits : Fits g rows unwanted q
 
 -- without any one conjunct it is not of the class or does not fit
-abbrev pub IsMinimal : Class → List Statement → List Mapping → List Mapping → Select → Type 0
-IsMinimal class g rows unwanted q = (r : Select) → DropsConjunct q r → IsRight class g rows unwanted r → ⊥
+abbrev pub IsMinimal : Class → Level → List Statement → List Mapping → List Mapping → Select → Type 0
+IsMinimal class level g rows unwanted q = (r : Select) → DropsConjunct q r → IsRight class level g rows unwanted r → ⊥
 
 -- what remains of a list where each element in turn is left out if the rest is right
 abbrev pub IsThinned : {X : Type 0} → (List X → Type 0) → List X → List X → Type 0
@@ -53,20 +54,20 @@ HasDomains And (domain x ds) = ds ≡ none
 HasDomains Optional d = Unit {0}
 
 -- the start: over the domains of the wanted rows, with the variables that they bind selected
-pub record IsStart (class : Class) (g : List Statement) (w : Wanted) (q : Select) : Type 0 where
+pub record IsStart (class : Class) (level : Level) (g : List Statement) (w : Wanted) (q : Select) : Type 0 where
   pub domains : Domain
   pub tree : Tree
   pub vars : List Name
   pub allowed : HasDomains class domains
   pub over : IsDomainTree w domains
-  pub conjuncts : IsStartTree g w domains tree
+  pub conjuncts : IsStartTree level g w domains tree
   pub selected : AreSelected w vars
   pub query : q ≡ plain_select vars tree
 
--- kept(class, G, W, U)
-pub record IsKept (class : Class) (g : List Statement) (w : Wanted) (unwanted : List Mapping) (q : Select) : Type 0 where
+-- kept(class, level, G, W, U)
+pub record IsKept (class : Class) (level : Level) (g : List Statement) (w : Wanted) (unwanted : List Mapping) (q : Select) : Type 0 where
   pub start : Select
   pub tree : Tree
-  pub begun : IsStart class g w start
-  pub thinned : IsThinnedTree (λ t. IsRight class g w.rows unwanted (plain_select start.vars t)) start.tree tree
+  pub begun : IsStart class level g w start
+  pub thinned : IsThinnedTree (λ t. IsRight class level g w.rows unwanted (plain_select start.vars t)) start.tree tree
   pub query : q ≡ plain_select start.vars tree

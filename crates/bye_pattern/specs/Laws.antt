@@ -1,4 +1,5 @@
 -- What the definitions say of one another.
+use Rattle.bye_pattern.specs.declared.level.Level.{Level}
 use Rattle.std.specs.Prelude.{◌≡◌, ℕ, List, [], ◌⊎◌, ◌↔◌}
 use Rattle.std.specs.List.{AllByRecursion}
 use Rattle.bye_terms.specs.Terms.{Statement}
@@ -27,7 +28,7 @@ pub record MeetsAll (g : List Statement) (q : Select) (m : Mapping) : Type 0 whe
 
 -- the answers of a query of the class are the mappings that meet it; joins play no part
 abbrev pub AnswersOfOneGroup : Type 0
-AnswersOfOneGroup = (g : List Statement) (q : Select) (m : Mapping) → InAnd q → IsAnswer g q.vars (alg q) m ↔ MeetsAll g q m
+AnswersOfOneGroup = (level : Level) (g : List Statement) (q : Select) (m : Mapping) → InAnd level q → IsAnswer g q.vars (alg q) m ↔ MeetsAll g q m
 
 -- these are the common patterns, all of them
 abbrev pub AreCommon : List Statement → List Name → List Mapping → List Pattern → Type 0
@@ -45,12 +46,12 @@ NoneFitsWhereUncovered = (g : List Statement) (header : List Name) (wanted : Lis
 
 -- for a query of the class: it fits exactly where every wanted row meets it and no unwanted row does
 abbrev pub FittingIsMeeting : Type 0
-FittingIsMeeting = (g : List Statement) (wanted unwanted : List Mapping) (q : Select) → InAnd q
+FittingIsMeeting = (level : Level) (g : List Statement) (wanted unwanted : List Mapping) (q : Select) → InAnd level q
     → Fits g wanted unwanted q ↔ (AllByRecursion (MeetsAll g q) wanted × AllByRecursion (λ m. MeetsAll g q m → ⊥) unwanted)
 
 -- without one of its conjuncts a query of the class has every answer that it had
 abbrev pub DroppingKeepsAnswers : Type 0
-DroppingKeepsAnswers = (g : List Statement) (q r : Select) (m : Mapping) → InAnd q → InAnd r → DropsConjunct q r → IsAnswer g q.vars (alg q) m → IsAnswer g r.vars (alg r) m
+DroppingKeepsAnswers = (level : Level) (g : List Statement) (q r : Select) (m : Mapping) → InAnd level q → InAnd level r → DropsConjunct q r → IsAnswer g q.vars (alg q) m → IsAnswer g r.vars (alg r) m
 
 -- an answer binds selected variables alone, and of these only variables of the tree's triples
 abbrev pub AnswersBindTheTree : Type 0
@@ -76,5 +77,5 @@ DomainsByNumbers = (rows : List Mapping) (x y : Name) → IsWithin rows x y ↔ 
 
 -- in a query of the class with OPTIONAL groups each domain class is new at one node alone
 abbrev pub ClassesAtOneNode : Type 0
-ClassesAtOneNode = (rows : List Mapping) (q : Select) → InOptional rows q → (p : List Name) (u : Tree) (r : List Name) (t : Tree) (x y : Name)
+ClassesAtOneNode = (level : Level) (rows : List Mapping) (q : Select) → InOptional level rows q → (p : List Name) (u : Tree) (r : List Name) (t : Tree) (x y : Name)
     → IsNode [] q.tree p u → IsNode [] q.tree r t → IsNewAt p u x → IsNewAt r t y → AreAlike rows x y → (p ≡ r) × (u ≡ t)

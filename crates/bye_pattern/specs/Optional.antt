@@ -3,6 +3,7 @@ use Rattle.std.specs.Prelude.{◌≡◌, true, List, [], ◌⊎◌, ◌↔◌}
 use Rattle.std.specs.List.{AllByRecursion}
 use Rattle.bye_terms.specs.Members.{In, EachOnce}
 use Rattle.bye_table.specs.Mappings.{Name, Mapping}
+use Rattle.bye_pattern.specs.declared.level.Level.{Level}
 use Rattle.bye_pattern.specs.Patterns.{all_vars}
 use Rattle.bye_pattern.specs.Trees.{Tree, node, Forest, leaf, more, own_triples, own_conds, own_vars, tree_vars, Select}
 use Rattle.bye_pattern.specs.Designed.{IsWellDesigned}
@@ -31,7 +32,7 @@ abbrev pub HasClass : List Mapping → List Name → Tree → Name → Type 0
 HasClass rows p u x = IsSeen rows x × ((v : Name) → IsNewAt p u v ↔ AreAlike rows x v)
 
 -- a query of the class with OPTIONAL groups, for these wanted rows
-pub record InOptional (rows : List Mapping) (q : Select) : Type 0 where
+pub record InOptional (level : Level) (rows : List Mapping) (q : Select) : Type 0 where
   pub distinct : q.distinct ≡ true
   pub outer : q.outer ≡ []
   pub designed : IsWellDesigned q.tree
@@ -45,6 +46,6 @@ pub record InOptional (rows : List Mapping) (q : Select) : Type 0 where
   pub order : (p : List Name) (u : Tree) (r : List Name) (t : Tree) (x y : Name) → IsNode [] q.tree p u → IsNode [] q.tree r t → IsNewAt p u x → IsNewAt r t y
       → IsAncestor t p u ↔ IsBelow rows x y
   pub triples : (p : List Name) (u : Tree) → IsNode [] q.tree p u → AllByRecursion IsClassTriple (own_triples u)
-  pub conds : (p : List Name) (u : Tree) → IsNode [] q.tree p u → AllByRecursion IsClassCond (own_conds u)
+  pub conds : (p : List Name) (u : Tree) → IsNode [] q.tree p u → AllByRecursion (IsClassCond level) (own_conds u)
   pub once : EachOnce q.vars
   pub selects : (v : Name) → In q.vars v ↔ In (tree_vars q.tree) v

@@ -6,7 +6,9 @@ use Rattle.bye_pattern.specs.declared.slot.Slot.{Slot}
 use Rattle.bye_pattern.specs.declared.slot.Slot.TheVariants.{Var, Const}
 use Rattle.bye_table.specs.Mappings.{Name}
 use Rattle.bye_pattern.specs.Patterns.{Pattern}
-use Rattle.bye_pattern.specs.Conditions.{Kind, AnIri, ABlank, ALiteral, Expr, IsBound, Same, KindOf, Not, And, Or, cond_expr}
+use Rattle.bye_pattern.specs.declared.kind.Kind.{Kind}
+use Rattle.bye_pattern.specs.declared.kind.Kind.TheVariants as kinds
+use Rattle.bye_pattern.specs.Conditions.{Expr, IsBound, Same, KindOf, Not, And, Or, cond_expr}
 use Rattle.bye_pattern.specs.Trees.{Tree, node, Forest, leaf, more, Select}
 
 -- a variable after its mark, or the spelling of a constant
@@ -20,9 +22,9 @@ pattern_text p = slot_text p.s ++ codes " " ++ slot_text p.p ++ codes " " ++ slo
 
 -- the name of a kind test, with its bracket
 abbrev pub kind_text : Kind → List ℕ
-kind_text AnIri = codes "isIRI("
-kind_text ABlank = codes "isBlank("
-kind_text ALiteral = codes "isLiteral("
+kind_text kinds.Iri = codes "isIRI("
+kind_text kinds.Blank = codes "isBlank("
+kind_text kinds.Literal = codes "isLiteral("
 
 -- whether the expression is written as a call
 abbrev pub is_call : Expr → Bool

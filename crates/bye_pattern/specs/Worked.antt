@@ -1,4 +1,5 @@
 -- Worked examples of the definitions: small graphs, trees and tables, with what holds of them and what does not.
+use Rattle.bye_pattern.specs.declared.level.Level.TheVariants.{One}
 use Rattle.std.specs.Prelude.{◌≡◌, ℕ, List, [], ◌∷◌, None, codes}
 use Rattle.bye_terms.specs.declared.term.Term.{Term}
 use Rattle.bye_terms.specs.declared.term.Term.TheVariants.{Iri, Blank, Lit}
@@ -112,8 +113,8 @@ mail_row = row_mapping ((x, a) ∷ (m, text (codes "m1")) ∷ [])
 -- over a row with mail and one without, that query is of the class with OPTIONAL groups, and fits; where every wanted row has
 -- mail, both variables are of one domain class, and it is not of the class
 pub record OptionalClasses : Type 0 where
-  pub right : IsRight Optional people (mail_row ∷ row_mapping ((x, b) ∷ []) ∷ []) [] mails
-  pub one_domain : IsOfClass Optional (mail_row ∷ []) mails → ⊥
+  pub right : IsRight Optional One people (mail_row ∷ row_mapping ((x, b) ∷ []) ∷ []) [] mails
+  pub one_domain : IsOfClass Optional One (mail_row ∷ []) mails → ⊥
 
 -- an OPTIONAL group that brings no variable
 abbrev pub nothing_new : Tree
@@ -157,26 +158,26 @@ known = triple ada born london ∷ triple ada knows bob ∷ triple eve knows bob
 -- pattern of the two is met by Ada and the first is not met by Eve. Were the triples tried first, the condition would stay.
 abbrev pub ConditionsAreTriedFirst : Type 0
 ConditionsAreTriedFirst =
-    IsKept And known (record { vars = x ∷ []; rows = row_mapping ((x, ada) ∷ []) ∷ [] }) (row_mapping ((x, eve) ∷ []) ∷ [])
+    IsKept And One known (record { vars = x ∷ []; rows = row_mapping ((x, ada) ∷ []) ∷ [] }) (row_mapping ((x, eve) ∷ []) ∷ [])
     (plain_select (x ∷ []) (group (pattern (Var x) (Const born) (Const london) ∷ [])))
 
 -- one row binds x, the other does not; the numbers stand in rising order
 pub record ClaimsOfDomains : Type 0 where
-  pub shows : Shows [] (row_mapping ((x, a) ∷ []) ∷ row_mapping [] ∷ []) [] (record { class = And; claim = Domains 1 2 x })
-  pub turned : Shows [] (row_mapping ((x, a) ∷ []) ∷ row_mapping [] ∷ []) [] (record { class = And; claim = Domains 2 1 x }) → ⊥
+  pub shows : Shows [] (row_mapping ((x, a) ∷ []) ∷ row_mapping [] ∷ []) [] (record { level = One; class = And; claim = Domains 1 2 x })
+  pub turned : Shows [] (row_mapping ((x, a) ∷ []) ∷ row_mapping [] ∷ []) [] (record { level = One; class = And; claim = Domains 2 1 x }) → ⊥
 
 -- of two rows each binds another variable; where one variable is bound in both, it may stand at the root
 pub record ClaimsOfNoRoot : Type 0 where
-  pub shows : Shows [] (row_mapping ((x, a) ∷ []) ∷ row_mapping ((y, a) ∷ []) ∷ []) [] (record { class = Optional; claim = NoRoot })
-  pub rooted : Shows [] (row_mapping ((x, a) ∷ []) ∷ row_mapping ((x, a) ∷ (y, a) ∷ []) ∷ []) [] (record { class = Optional; claim = NoRoot }) → ⊥
+  pub shows : Shows [] (row_mapping ((x, a) ∷ []) ∷ row_mapping ((y, a) ∷ []) ∷ []) [] (record { level = One; class = Optional; claim = NoRoot })
+  pub rooted : Shows [] (row_mapping ((x, a) ∷ []) ∷ row_mapping ((x, a) ∷ (y, a) ∷ []) ∷ []) [] (record { level = One; class = Optional; claim = NoRoot }) → ⊥
 
 -- w is bound within y and within z, of which neither is within the other; x is around y, so w within x and y is no fork
 abbrev pub forked : List Mapping
 forked = row_mapping ((x, a) ∷ (y, a) ∷ []) ∷ row_mapping ((x, a) ∷ (z, a) ∷ []) ∷ row_mapping ((x, a) ∷ (y, a) ∷ (z, a) ∷ (w, a) ∷ []) ∷ []
 
 pub record ClaimsOfFork : Type 0 where
-  pub shows : Shows [] forked [] (record { class = Optional; claim = Fork w y z })
-  pub nested : Shows [] forked [] (record { class = Optional; claim = Fork w x y }) → ⊥
+  pub shows : Shows [] forked [] (record { level = One; class = Optional; claim = Fork w y z })
+  pub nested : Shows [] forked [] (record { level = One; class = Optional; claim = Fork w x y }) → ⊥
 
 -- the only triple in common has a blank node, which is no constant of a query; with an IRI in its place there is a pattern
 abbrev pub linked : Term → List Statement
@@ -186,18 +187,18 @@ abbrev pub both_rows : List Mapping
 both_rows = row_mapping ((x, a) ∷ []) ∷ row_mapping ((x, b) ∷ []) ∷ []
 
 pub record ClaimsOfUncovered : Type 0 where
-  pub shows : Shows (linked (Blank (codes "k"))) both_rows [] (record { class = And; claim = Uncovered x })
-  pub covered : Shows (linked c) both_rows [] (record { class = And; claim = Uncovered x }) → ⊥
+  pub shows : Shows (linked (Blank (codes "k"))) both_rows [] (record { level = One; class = And; claim = Uncovered x })
+  pub covered : Shows (linked c) both_rows [] (record { level = One; class = And; claim = Uncovered x }) → ⊥
 
 -- the unwanted row is a person too, as all wanted rows are; where it is not, it is kept away
 abbrev pub persons : List Statement
 persons = triple a kind person ∷ triple b kind person ∷ []
 
 pub record ClaimsOfAdmitted : Type 0 where
-  pub shows : Shows (triple c kind person ∷ persons) both_rows (row_mapping ((x, c) ∷ []) ∷ []) (record { class = And; claim = Admitted 1 })
-  pub kept_away : Shows persons both_rows (row_mapping ((x, c) ∷ []) ∷ []) (record { class = And; claim = Admitted 1 }) → ⊥
+  pub shows : Shows (triple c kind person ∷ persons) both_rows (row_mapping ((x, c) ∷ []) ∷ []) (record { level = One; class = And; claim = Admitted 1 })
+  pub kept_away : Shows persons both_rows (row_mapping ((x, c) ∷ []) ∷ []) (record { level = One; class = And; claim = Admitted 1 }) → ⊥
 
--- b is wanted without mail, but has one; the values are that mail and no other
+-- b is wanted without mail, but has one; the values are that mail and no other, and name it once
 abbrev pub mailed : List Statement
 mailed = triple a kind person ∷ triple b kind person ∷ triple c kind person
     ∷ triple a mail (text (codes "m1")) ∷ triple b mail (text (codes "m2")) ∷ triple c mail (text (codes "m3")) ∷ []
@@ -206,5 +207,6 @@ abbrev pub some_mails : List Mapping
 some_mails = row_mapping ((x, a) ∷ (m, text (codes "m1")) ∷ []) ∷ row_mapping ((x, c) ∷ (m, text (codes "m3")) ∷ []) ∷ row_mapping ((x, b) ∷ []) ∷ []
 
 pub record ClaimsOfExtension : Type 0 where
-  pub shows : Shows mailed some_mails [] (record { class = Optional; claim = Extension 3 m ((m, text (codes "m2")) ∷ []) })
-  pub other_value : Shows mailed some_mails [] (record { class = Optional; claim = Extension 3 m ((m, text (codes "m9")) ∷ []) }) → ⊥
+  pub shows : Shows mailed some_mails [] (record { level = One; class = Optional; claim = Extension 3 m ((m, text (codes "m2")) ∷ []) })
+  pub other_value : Shows mailed some_mails [] (record { level = One; class = Optional; claim = Extension 3 m ((m, text (codes "m9")) ∷ []) }) → ⊥
+  pub twice : Shows mailed some_mails [] (record { level = One; class = Optional; claim = Extension 3 m ((m, text (codes "m2")) ∷ (m, text (codes "m9")) ∷ []) }) → ⊥

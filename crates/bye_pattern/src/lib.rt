@@ -7,9 +7,11 @@ mod class;
 mod cond;
 mod constant;
 mod header;
+mod kind;
 mod laws;
 mod learned;
 mod learner;
+mod level;
 mod meeting;
 mod node;
 mod pattern;
@@ -29,8 +31,10 @@ pub use laws::{
     classes_at_one_node, common_patterns_fit, designed_at_once, domains_by_numbers,
     dropping_keeps_answers, fitting_is_meeting, none_fits_where_uncovered, one_table,
 };
+pub use kind::Kind;
 pub use learned::Learned;
 pub use learner::learn;
+pub use level::Level;
 pub use node::Node;
 pub use pattern::TriplePattern;
 pub use printer::write_conjunction;
