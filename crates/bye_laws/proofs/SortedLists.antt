@@ -7,11 +7,13 @@ use Rattle.bye_terms.proofs.Members.{all_from, all_in}
 use Rattle.bye_terms.proofs.Tests.{bool_cases, not_both}
 use Rattle.bye_pattern.specs.declared.cond.Cond.{Cond}
 use Rattle.bye_pattern.specs.declared.cond.Cond.TheVariants as conds
+use Rattle.bye_pattern.specs.declared.kind.Kind.{Kind}
+use Rattle.bye_pattern.specs.declared.kind.Kind.TheVariants as kinds
 use Rattle.bye_table.specs.Domains.{IsBefore}
 use Rattle.bye_table.specs.Mappings.{Name}
 use Rattle.bye_pattern.specs.Conditions.{cond_vars}
 use Rattle.bye_pattern.specs.Patterns.{Pattern}
-use Rattle.bye_pattern.specs.Starting.{AreInTrialOrder, IsTriedBefore}
+use Rattle.bye_pattern.specs.Starting.{AreInTrialOrder, IsKindBefore, IsTriedBefore}
 use Rattle.bye_pattern.specs.TrialOrder.{IsInStrictOrder, trial_cmp}
 use Rattle.bye_pattern.proofs.Orders.{trial_total, trial_weak}
 use Rattle.bye_laws.specs.Ordering.{AreOrderable, HaveSameMembers, IsValidPattern, SortedListsAreOneAndThere}
@@ -89,56 +91,131 @@ before_chain (v ∷ xs) x y z once (inl a) b = inl (a.0, ⊎_elim (λ k. k.1) (�
 before_chain (v ∷ xs) x y z once (inr a) (inl b) = absurd (once.0 (subst (In xs) (sym b.0) (before_in xs x y a)))
 before_chain (v ∷ xs) x y z once (inr a) (inr b) = inr (before_chain xs x y z once.1 a b)
 
--- two variables each, by the first and then by the second
-pairs_chain : (xs : List Name) (a b c d e f : Name) → EachOnce xs → IsBefore xs a c ⊎ ((a ≡ c) × IsBefore xs b d) → IsBefore xs c e ⊎ ((c ≡ e) × IsBefore xs d f)
-    → IsBefore xs a e ⊎ ((a ≡ e) × IsBefore xs b f)
-pairs_chain xs a b c d e f once (inl h) (inl k) = inl (before_chain xs a c e once h k)
-pairs_chain xs a b c d e f once (inl h) (inr k) = inl (subst (IsBefore xs a) k.0 h)
-pairs_chain xs a b c d e f once (inr h) (inl k) = inl (subst (λ x. IsBefore xs x e) (sym h.0) k)
-pairs_chain xs a b c d e f once (inr h) (inr k) = inr (h.0 ∙ k.0, before_chain xs b d f once h.1 k.1)
+-- by a variable, and of one variable by something else
+pairs_chain : {Y : Type 0} (R : Y → Y → Type 0) (xs : List Name) (u v w : Name) (x y z : Y) → EachOnce xs → (R x y → R y z → R x z)
+    → IsBefore xs u v ⊎ ((u ≡ v) × R x y) → IsBefore xs v w ⊎ ((v ≡ w) × R y z) → IsBefore xs u w ⊎ ((u ≡ w) × R x z)
+pairs_chain R xs u v w x y z once chain (inl h) (inl k) = inl (before_chain xs u v w once h k)
+pairs_chain R xs u v w x y z once chain (inl h) (inr k) = inl (subst (IsBefore xs u) k.0 h)
+pairs_chain R xs u v w x y z once chain (inr h) (inl k) = inl (subst (λ x. IsBefore xs x w) (sym h.0) k)
+pairs_chain R xs u v w x y z once chain (inr h) (inr k) = inr (h.0 ∙ k.0, chain h.1 k.1)
+
+-- kinds: one tried before the next, and that before a third
+kinds_chain : (i j k : Kind) → IsKindBefore i j → IsKindBefore j k → IsKindBefore i k
+kinds_chain kinds.Iri kinds.Iri k a b = absurd a
+kinds_chain kinds.Iri kinds.Blank kinds.Iri a b = absurd b
+kinds_chain kinds.Iri kinds.Blank kinds.Blank a b = absurd b
+kinds_chain kinds.Iri kinds.Blank kinds.Literal a b = tt
+kinds_chain kinds.Iri kinds.Literal kinds.Iri a b = absurd b
+kinds_chain kinds.Iri kinds.Literal kinds.Blank a b = absurd b
+kinds_chain kinds.Iri kinds.Literal kinds.Literal a b = absurd b
+kinds_chain kinds.Blank kinds.Iri k a b = absurd a
+kinds_chain kinds.Blank kinds.Blank k a b = absurd a
+kinds_chain kinds.Blank kinds.Literal kinds.Iri a b = absurd b
+kinds_chain kinds.Blank kinds.Literal kinds.Blank a b = absurd b
+kinds_chain kinds.Blank kinds.Literal kinds.Literal a b = absurd b
+kinds_chain kinds.Literal kinds.Iri k a b = absurd a
+kinds_chain kinds.Literal kinds.Blank k a b = absurd a
+kinds_chain kinds.Literal kinds.Literal k a b = absurd a
+
+-- two kinds are the same, or one is tried before the other
+kinds_compared : (i j : Kind) → IsComparable IsKindBefore i j
+kinds_compared kinds.Iri kinds.Iri = inl refl
+kinds_compared kinds.Iri kinds.Blank = inr (inl tt)
+kinds_compared kinds.Iri kinds.Literal = inr (inl tt)
+kinds_compared kinds.Blank kinds.Iri = inr (inr tt)
+kinds_compared kinds.Blank kinds.Blank = inl refl
+kinds_compared kinds.Blank kinds.Literal = inr (inl tt)
+kinds_compared kinds.Literal kinds.Iri = inr (inr tt)
+kinds_compared kinds.Literal kinds.Blank = inr (inr tt)
+kinds_compared kinds.Literal kinds.Literal = inl refl
 
 -- conditions: one tried before the next, and that before a third
 pub conditions_chain : (header : List Name) → EachOnce header → (c d e : Cond) → IsTriedBefore header c d → IsTriedBefore header d e → IsTriedBefore header c e
 conditions_chain header once (conds.Bound u) (conds.Bound v) (conds.Bound w) a b = before_chain header u v w once a b
-conditions_chain header once (conds.Bound u) (conds.SameVar v x) (conds.Bound w) a b = absurd b
+conditions_chain header once (conds.Bound u) (conds.Bound v) (conds.SameVar w z) a b = tt
+conditions_chain header once (conds.Bound u) (conds.Bound v) (conds.SameConst w t) a b = tt
+conditions_chain header once (conds.Bound u) (conds.Bound v) (conds.KindOf k w) a b = tt
+conditions_chain header once (conds.Bound u) (conds.SameVar v y) (conds.Bound w) a b = absurd b
+conditions_chain header once (conds.Bound u) (conds.SameVar v y) (conds.SameVar w z) a b = tt
+conditions_chain header once (conds.Bound u) (conds.SameVar v y) (conds.SameConst w t) a b = tt
+conditions_chain header once (conds.Bound u) (conds.SameVar v y) (conds.KindOf k w) a b = tt
 conditions_chain header once (conds.Bound u) (conds.SameConst v s) (conds.Bound w) a b = absurd b
-conditions_chain header once (conds.Bound u) d (conds.SameVar w x) a b = tt
-conditions_chain header once (conds.Bound u) d (conds.SameConst w s) a b = tt
+conditions_chain header once (conds.Bound u) (conds.SameConst v s) (conds.SameVar w z) a b = absurd b
+conditions_chain header once (conds.Bound u) (conds.SameConst v s) (conds.SameConst w t) a b = tt
+conditions_chain header once (conds.Bound u) (conds.SameConst v s) (conds.KindOf k w) a b = tt
+conditions_chain header once (conds.Bound u) (conds.KindOf j v) (conds.Bound w) a b = absurd b
+conditions_chain header once (conds.Bound u) (conds.KindOf j v) (conds.SameVar w z) a b = absurd b
+conditions_chain header once (conds.Bound u) (conds.KindOf j v) (conds.SameConst w t) a b = absurd b
+conditions_chain header once (conds.Bound u) (conds.KindOf j v) (conds.KindOf k w) a b = tt
 conditions_chain header once (conds.SameVar u x) (conds.Bound v) e a b = absurd a
 conditions_chain header once (conds.SameVar u x) (conds.SameVar v y) (conds.Bound w) a b = absurd b
+conditions_chain header once (conds.SameVar u x) (conds.SameVar v y) (conds.SameVar w z) a b = pairs_chain (IsBefore header) header u v w x y z once (before_chain header x y z once) a b
+conditions_chain header once (conds.SameVar u x) (conds.SameVar v y) (conds.SameConst w t) a b = tt
+conditions_chain header once (conds.SameVar u x) (conds.SameVar v y) (conds.KindOf k w) a b = tt
 conditions_chain header once (conds.SameVar u x) (conds.SameConst v s) (conds.Bound w) a b = absurd b
-conditions_chain header once (conds.SameVar u x) (conds.SameVar v y) (conds.SameVar w z) a b = pairs_chain header u x v y w z once a b
 conditions_chain header once (conds.SameVar u x) (conds.SameConst v s) (conds.SameVar w z) a b = absurd b
-conditions_chain header once (conds.SameVar u x) d (conds.SameConst w s) a b = tt
+conditions_chain header once (conds.SameVar u x) (conds.SameConst v s) (conds.SameConst w t) a b = tt
+conditions_chain header once (conds.SameVar u x) (conds.SameConst v s) (conds.KindOf k w) a b = tt
+conditions_chain header once (conds.SameVar u x) (conds.KindOf j v) (conds.Bound w) a b = absurd b
+conditions_chain header once (conds.SameVar u x) (conds.KindOf j v) (conds.SameVar w z) a b = absurd b
+conditions_chain header once (conds.SameVar u x) (conds.KindOf j v) (conds.SameConst w t) a b = absurd b
+conditions_chain header once (conds.SameVar u x) (conds.KindOf j v) (conds.KindOf k w) a b = tt
 conditions_chain header once (conds.SameConst u r) (conds.Bound v) e a b = absurd a
 conditions_chain header once (conds.SameConst u r) (conds.SameVar v y) e a b = absurd a
 conditions_chain header once (conds.SameConst u r) (conds.SameConst v s) (conds.Bound w) a b = absurd b
 conditions_chain header once (conds.SameConst u r) (conds.SameConst v s) (conds.SameVar w z) a b = absurd b
 conditions_chain header once (conds.SameConst u r) (conds.SameConst v s) (conds.SameConst w t) a b = before_chain header u v w once a b
+conditions_chain header once (conds.SameConst u r) (conds.SameConst v s) (conds.KindOf k w) a b = tt
+conditions_chain header once (conds.SameConst u r) (conds.KindOf j v) (conds.Bound w) a b = absurd b
+conditions_chain header once (conds.SameConst u r) (conds.KindOf j v) (conds.SameVar w z) a b = absurd b
+conditions_chain header once (conds.SameConst u r) (conds.KindOf j v) (conds.SameConst w t) a b = absurd b
+conditions_chain header once (conds.SameConst u r) (conds.KindOf j v) (conds.KindOf k w) a b = tt
+conditions_chain header once (conds.KindOf i u) (conds.Bound v) e a b = absurd a
+conditions_chain header once (conds.KindOf i u) (conds.SameVar v y) e a b = absurd a
+conditions_chain header once (conds.KindOf i u) (conds.SameConst v s) e a b = absurd a
+conditions_chain header once (conds.KindOf i u) (conds.KindOf j v) (conds.Bound w) a b = absurd b
+conditions_chain header once (conds.KindOf i u) (conds.KindOf j v) (conds.SameVar w z) a b = absurd b
+conditions_chain header once (conds.KindOf i u) (conds.KindOf j v) (conds.SameConst w t) a b = absurd b
+conditions_chain header once (conds.KindOf i u) (conds.KindOf j v) (conds.KindOf k w) a b = pairs_chain IsKindBefore header u v w i j k once (kinds_chain i j k) a b
+
+-- what is made of a variable and something else can be compared where both can
+pairs_compared : {Y : Type 0} (header : List Name) (R : Y → Y → Type 0) (v w : Name) (x y : Y) (make : Name → Y → Cond) → IsComparable (IsBefore header) v w → IsComparable R x y
+    → (make v x ≡ make w y) ⊎ ((IsBefore header v w ⊎ ((v ≡ w) × R x y)) ⊎ (IsBefore header w v ⊎ ((w ≡ v) × R y x)))
+pairs_compared header R v w x y make (inl e) (inl f) = inl (λ i. make (e i) (f i))
+pairs_compared header R v w x y make (inl e) (inr (inl r)) = inr (inl (inr (e, r)))
+pairs_compared header R v w x y make (inl e) (inr (inr r)) = inr (inr (inr (sym e, r)))
+pairs_compared header R v w x y make (inr (inl b)) c = inr (inl (inl b))
+pairs_compared header R v w x y make (inr (inr b)) c = inr (inr (inl b))
 
 -- conditions over a header can be compared, where of two constants of a variable both are one
 conditions_compared : (header : List Name) (cs : List Cond) → AreOrderable header cs → (c d : Cond) → In cs c → In cs d → IsComparable (IsTriedBefore header) c d
 conditions_compared header cs o (conds.Bound v) (conds.Bound w) h k =
     ⊎_elim (λ e. inl (ap conds.Bound e)) inr (one_before header v w (o.over (conds.Bound v) h v (inl refl)) (o.over (conds.Bound w) k w (inl refl)))
-conditions_compared header cs o (conds.Bound v) (conds.SameVar w x) h k = inr (inl tt)
+conditions_compared header cs o (conds.Bound v) (conds.SameVar w y) h k = inr (inl tt)
 conditions_compared header cs o (conds.Bound v) (conds.SameConst w t) h k = inr (inl tt)
-conditions_compared header cs o (conds.SameVar v w) (conds.Bound x) h k = inr (inr tt)
-conditions_compared header cs o (conds.SameVar v w) (conds.SameVar x y) h k =
-    ⊎_elim
-    (λ e. ⊎_elim
-    (λ f. inl (λ i. conds.SameVar (e i) (f i)))
-    (λ r. inr (⊎_elim (λ b. inl (inr (e, b))) (λ b. inr (inr (sym e, b))) r))
-    (one_before header w y (o.over (conds.SameVar v w) h w (inr (inl refl))) (o.over (conds.SameVar x y) k y (inr (inl refl)))))
-    (λ r. inr (⊎_elim (λ b. inl (inl b)) (λ b. inr (inl b)) r))
-    (one_before header v x (o.over (conds.SameVar v w) h v (inl refl)) (o.over (conds.SameVar x y) k x (inl refl)))
-conditions_compared header cs o (conds.SameVar v w) (conds.SameConst x t) h k = inr (inl tt)
+conditions_compared header cs o (conds.Bound v) (conds.KindOf j w) h k = inr (inl tt)
+conditions_compared header cs o (conds.SameVar v x) (conds.Bound w) h k = inr (inr tt)
+conditions_compared header cs o (conds.SameVar v x) (conds.SameVar w y) h k =
+    pairs_compared header (IsBefore header) v w x y conds.SameVar
+    (one_before header v w (o.over (conds.SameVar v x) h v (inl refl)) (o.over (conds.SameVar w y) k w (inl refl)))
+    (one_before header x y (o.over (conds.SameVar v x) h x (inr (inl refl))) (o.over (conds.SameVar w y) k y (inr (inl refl))))
+conditions_compared header cs o (conds.SameVar v x) (conds.SameConst w t) h k = inr (inl tt)
+conditions_compared header cs o (conds.SameVar v x) (conds.KindOf j w) h k = inr (inl tt)
 conditions_compared header cs o (conds.SameConst v s) (conds.Bound w) h k = inr (inr tt)
-conditions_compared header cs o (conds.SameConst v s) (conds.SameVar w x) h k = inr (inr tt)
+conditions_compared header cs o (conds.SameConst v s) (conds.SameVar w y) h k = inr (inr tt)
 conditions_compared header cs o (conds.SameConst v s) (conds.SameConst w t) h k =
     ⊎_elim
     (λ e. let same = o.one_constant v s t h (subst (λ w. In cs (conds.SameConst w t)) (sym e) k) in inl (λ i. conds.SameConst (e i) (same i)))
     inr
     (one_before header v w (o.over (conds.SameConst v s) h v (inl refl)) (o.over (conds.SameConst w t) k w (inl refl)))
+conditions_compared header cs o (conds.SameConst v s) (conds.KindOf j w) h k = inr (inl tt)
+conditions_compared header cs o (conds.KindOf i v) (conds.Bound w) h k = inr (inr tt)
+conditions_compared header cs o (conds.KindOf i v) (conds.SameVar w y) h k = inr (inr tt)
+conditions_compared header cs o (conds.KindOf i v) (conds.SameConst w t) h k = inr (inr tt)
+conditions_compared header cs o (conds.KindOf i v) (conds.KindOf j w) h k =
+    pairs_compared header IsKindBefore v w i j (λ v i. conds.KindOf i v)
+    (one_before header v w (o.over (conds.KindOf i v) h v (inl refl)) (o.over (conds.KindOf j w) k w (inl refl)))
+    (kinds_compared i j)
 
 -- valid patterns in strict order
 pub strict_patterns : (ps : List Pattern) → AllByRecursion IsValidPattern ps → (qs : List Pattern) × IsInStrictOrder qs × HaveSameMembers qs ps
