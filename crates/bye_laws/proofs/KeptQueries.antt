@@ -23,6 +23,7 @@ use Rattle.bye_pattern.specs.Trees.{Forest, Select, Tree, leaf, more, node, plai
 use Rattle.bye_pattern.specs.TrialOrder.{IsInStrictOrder, trial_cmp}
 use Rattle.bye_pattern.proofs.Orders.{trial_weak}
 use Rattle.bye_laws.specs.Completeness.{Allows, AreExamples}
+use Rattle.bye_laws.specs.Ordering.{IsSorted}
 use Rattle.bye_laws.proofs.ClassStarts.{class_is_over}
 use Rattle.bye_laws.proofs.Conjunctions.{conjunctions_lift}
 use Rattle.bye_laws.proofs.Examples.{one_seen_list}
@@ -33,12 +34,7 @@ use Rattle.bye_laws.proofs.OptionalStarts.{optional_parts}
 use Rattle.bye_laws.proofs.Passes.{thin_tree}
 use Rattle.bye_pattern.specs.declared.cond.Cond.TheVariants as conds
 
--- a list in which each element stands before all later ones
-abbrev pub IsSorted : {X : Type 0} → (X → X → Type 0) → List X → Type 0
-IsSorted R [] = Unit {0}
-IsSorted {X} R (x ∷ xs) = AllByRecursion (R x) xs × IsSorted R xs
-
--- is told by its elements
+-- a sorted list is told by its elements
 pub sorted_same : {X : Type 0} (R : X → X → Type 0) → ((x y : X) → R x y → R y x → ⊥) → (xs ys : List X) → IsSorted R xs → IsSorted R ys → ((x : X) → In xs x ↔ In ys x) → xs ≡ ys
 sorted_same R apart [] [] a b same = refl
 sorted_same R apart [] (y ∷ ys) a b same = absurd ((same y).1 (inl refl))

@@ -34,3 +34,4 @@ pub mod KeptQueries
 pub mod BothClasses
 pub mod PatternLines
 pub mod SortedLists
+pub mod DomainNodes

@@ -16,9 +16,9 @@ use Rattle.bye_pattern.specs.Patterns.{Pattern}
 use Rattle.bye_pattern.specs.Starting.{AreInTrialOrder, IsKindBefore, IsTriedBefore}
 use Rattle.bye_pattern.specs.TrialOrder.{IsInStrictOrder, trial_cmp}
 use Rattle.bye_pattern.proofs.Orders.{trial_total, trial_weak}
-use Rattle.bye_laws.specs.Ordering.{AreOrderable, HaveSameMembers, IsValidPattern, SortedListsAreOneAndThere}
+use Rattle.bye_laws.specs.Ordering.{AreOrderable, HaveSameMembers, IsSorted, IsValidPattern, SortedListsAreOneAndThere}
 use Rattle.bye_laws.proofs.DomainTrees.{before_in, one_before}
-use Rattle.bye_laws.proofs.KeptQueries.{IsSorted, conditions_apart, patterns_apart, sorted_same, tried_in_order, tried_strictly}
+use Rattle.bye_laws.proofs.KeptQueries.{conditions_apart, patterns_apart, sorted_same, tried_in_order, tried_strictly}
 use Rattle.bye_laws.proofs.PatternLines.{tried_first}
 
 -- two elements are the same, or one stands before the other

@@ -4,3 +4,4 @@ pub mod Completeness
 pub mod Passing
 pub mod LocalPass
 pub mod Ordering
+pub mod DomainNodes

@@ -1,5 +1,5 @@
 -- The order in which conjuncts are tried: of different ones which is first, and the lists in that order.
-use Rattle.std.specs.Prelude.{◌≡◌, true, false, List, ◌⊎◌, ◌↔◌}
+use Rattle.std.specs.Prelude.{◌≡◌, true, false, List, [], ◌∷◌, ◌⊎◌, ◌↔◌}
 use Rattle.std.specs.List.{AllByRecursion}
 use Rattle.std.specs.Ordering.{is_lt}
 use Rattle.bye_terms.specs.Members.{EachOnce, In}
@@ -37,6 +37,11 @@ IsTriedFirst p q = (is_lt (trial_cmp p q) ≡ true) × (is_lt (trial_cmp q p) �
 pub record OnePattern : Type 0 where
   pub line : (p q : Pattern) → IsValidPattern p → IsValidPattern q → line_bytes p ≡ line_bytes q → p ≡ q
   pub first : (p q : Pattern) → IsValidPattern p → IsValidPattern q → (p ≡ q → ⊥) → IsTriedFirst p q ⊎ IsTriedFirst q p
+
+-- a list in which each element stands before all later ones
+abbrev pub IsSorted : {X : Type 0} → (X → X → Type 0) → List X → Type 0
+IsSorted R [] = Unit {0}
+IsSorted {X} R (x ∷ xs) = AllByRecursion (R x) xs × IsSorted R xs
 
 -- the two lists have the same members
 abbrev pub HaveSameMembers : {X : Type 0} → List X → List X → Type 0

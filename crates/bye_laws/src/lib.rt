@@ -8,6 +8,7 @@ ghost use Rattle.bye_laws.specs.Completeness.{StartsFitIfAny, NoneFitsAsTheStart
 ghost use Rattle.bye_laws.specs.Passing.{KeptIsOne, SomethingIsKept, KeptIsMinimal};
 ghost use Rattle.bye_laws.specs.LocalPass.{LocalPassKeeps, LocalQuestions};
 ghost use Rattle.bye_laws.specs.Ordering.{OnePattern, SortedListsAreOneAndThere};
+ghost use Rattle.bye_laws.specs.DomainNodes.{DomainNodesAreTold};
 
 /// A row of a well-designed tree is told by the nodes that it reaches (SPARQL 1.1 Query, section 18.5).
 pub fn rows_by_reaching()
@@ -83,4 +84,9 @@ pub fn one_pattern()
 /// Valid patterns have one list in strict order, and conditions over a header one list in the order of trial.
 pub fn sorted_lists_are_one_and_there()
     ensures { SortedListsAreOneAndThere }
+{}
+
+/// The variables of each node of a tree of domains, the numbers of its rows, and the nodes above it.
+pub fn domain_nodes_are_told()
+    ensures { DomainNodesAreTold }
 {}
