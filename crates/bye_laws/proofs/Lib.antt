@@ -35,3 +35,5 @@ pub mod BothClasses
 pub mod PatternLines
 pub mod SortedLists
 pub mod DomainNodes
+pub mod DomainParts
+pub mod DomainDepths

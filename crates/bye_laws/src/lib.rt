@@ -8,7 +8,7 @@ ghost use Rattle.bye_laws.specs.Completeness.{StartsFitIfAny, NoneFitsAsTheStart
 ghost use Rattle.bye_laws.specs.Passing.{KeptIsOne, SomethingIsKept, KeptIsMinimal};
 ghost use Rattle.bye_laws.specs.LocalPass.{LocalPassKeeps, LocalQuestions};
 ghost use Rattle.bye_laws.specs.Ordering.{OnePattern, SortedListsAreOneAndThere};
-ghost use Rattle.bye_laws.specs.DomainNodes.{DomainNodesAreTold};
+ghost use Rattle.bye_laws.specs.DomainNodes.{DomainNodesAreTold, DomainTreesByDepth};
 
 /// A row of a well-designed tree is told by the nodes that it reaches (SPARQL 1.1 Query, section 18.5).
 pub fn rows_by_reaching()
@@ -89,4 +89,9 @@ pub fn sorted_lists_are_one_and_there()
 /// The variables of each node of a tree of domains, the numbers of its rows, and the nodes above it.
 pub fn domain_nodes_are_told()
     ensures { DomainNodesAreTold }
+{}
+
+/// A tree of domains is the one that is made from its labels, each node from those right below it.
+pub fn domain_trees_by_depth()
+    ensures { DomainTreesByDepth }
 {}
