@@ -9,28 +9,12 @@ use Rattle.bye_table.specs.DomainTrees.{Domain, IsDomainTree, IsFirstOfClass, Su
 use Rattle.bye_table.specs.Mappings.{Mapping, Name}
 use Rattle.bye_laws.specs.Completeness.{AreExamples}
 use Rattle.bye_laws.specs.DomainNodes.{AreLabels, DomainTreesByDepth, IsChildAmong, TellsChildren, subdomains_of, tree_at}
+use Rattle.bye_laws.proofs.Deciding.{is_so, not_so, so_from, so_to}
 use Rattle.bye_laws.proofs.DomainLabels.{IsTopIn, label_self, top_label}
 use Rattle.bye_laws.proofs.DomainNodes.{labels_one, labels_there}
 use Rattle.bye_laws.proofs.DomainParts.{ArePart, IsListed, IsPart, below_trans, children_are, children_part, first_part, not_below_self, rest_part, to_labels, tops, whole_part}
 use Rattle.bye_laws.proofs.DomainTrees.{one_first}
 use Rattle.bye_laws.proofs.Withins.{below_or_not, within_each}
-
--- what is decided, as a test
-abbrev pub is_so : {A : Type 0} → A ⊎ (A → ⊥) → Bool
-is_so (inl a) = true
-is_so (inr n) = false
-
-pub so_from : {A : Type 0} (d : A ⊎ (A → ⊥)) → is_so d ≡ true → A
-so_from (inl a) e = a
-so_from (inr n) e = cc
-
-pub so_to : {A : Type 0} (d : A ⊎ (A → ⊥)) → A → is_so d ≡ true
-so_to (inl a) h = refl
-so_to (inr n) h = absurd (n h)
-
-pub not_so : {A : Type 0} (d : A ⊎ (A → ⊥)) → (A → ⊥) → is_so d ≡ false
-not_so (inl a) n = absurd (n a)
-not_so (inr m) n = refl
 
 -- how many pass, with one more
 count_step : {X : Type 0} (f : X → Bool) (x : X) (xs : List X) → count_by f (x ∷ xs) ≡ cond (f x) 1 0 + count_by f xs

@@ -34,6 +34,9 @@ pub mod KeptQueries
 pub mod BothClasses
 pub mod PatternLines
 pub mod SortedLists
+pub mod Deciding
 pub mod DomainNodes
 pub mod DomainParts
 pub mod DomainDepths
+pub mod StrongestThere
+pub mod StrongestAt

@@ -5,3 +5,4 @@ pub mod Passing
 pub mod LocalPass
 pub mod Ordering
 pub mod DomainNodes
+pub mod Strongest

@@ -9,6 +9,7 @@ ghost use Rattle.bye_laws.specs.Passing.{KeptIsOne, SomethingIsKept, KeptIsMinim
 ghost use Rattle.bye_laws.specs.LocalPass.{LocalPassKeeps, LocalQuestions};
 ghost use Rattle.bye_laws.specs.Ordering.{OnePattern, SortedListsAreOneAndThere};
 ghost use Rattle.bye_laws.specs.DomainNodes.{DomainNodesAreTold, DomainTreesByDepth};
+ghost use Rattle.bye_laws.specs.Strongest.{StrongestNodes};
 
 /// A row of a well-designed tree is told by the nodes that it reaches (SPARQL 1.1 Query, section 18.5).
 pub fn rows_by_reaching()
@@ -94,4 +95,9 @@ pub fn domain_nodes_are_told()
 /// A tree of domains is the one that is made from its labels, each node from those right below it.
 pub fn domain_trees_by_depth()
     ensures { DomainTreesByDepth }
+{}
+
+/// The strongest node over some variables and rows is there and one, and over those of a domain it is the start's.
+pub fn strongest_nodes()
+    ensures { StrongestNodes }
 {}
