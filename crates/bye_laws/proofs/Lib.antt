@@ -40,3 +40,4 @@ pub mod DomainParts
 pub mod DomainDepths
 pub mod StrongestThere
 pub mod StrongestAt
+pub mod StartsThere

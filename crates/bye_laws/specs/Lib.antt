@@ -6,3 +6,4 @@ pub mod LocalPass
 pub mod Ordering
 pub mod DomainNodes
 pub mod Strongest
+pub mod Beginning

@@ -10,6 +10,7 @@ ghost use Rattle.bye_laws.specs.LocalPass.{LocalPassKeeps, LocalQuestions};
 ghost use Rattle.bye_laws.specs.Ordering.{OnePattern, SortedListsAreOneAndThere};
 ghost use Rattle.bye_laws.specs.DomainNodes.{DomainNodesAreTold, DomainTreesByDepth};
 ghost use Rattle.bye_laws.specs.Strongest.{StrongestNodes};
+ghost use Rattle.bye_laws.specs.Beginning.{StartsAreThereAndOne};
 
 /// A row of a well-designed tree is told by the nodes that it reaches (SPARQL 1.1 Query, section 18.5).
 pub fn rows_by_reaching()
@@ -100,4 +101,9 @@ pub fn domain_trees_by_depth()
 /// The strongest node over some variables and rows is there and one, and over those of a domain it is the start's.
 pub fn strongest_nodes()
     ensures { StrongestNodes }
+{}
+
+/// Each class has one start, exactly where no claim shows about which rows bind which variables.
+pub fn starts_are_there_and_one()
+    ensures { StartsAreThereAndOne }
 {}
