@@ -1,9 +1,8 @@
 -- A tree of domains is the one that is made from its labels, to a depth that is enough.
 use Rattle.std.proofs.Common.{◌≡◌, refl, ℕ, zero, suc, ◌+◌, ◌≤◌, ◌<◌, Bool, true, false, cond, List, [], ◌∷◌, length, map, ◌⊎◌, inl, inr, ⊎_elim, sym, ◌∙◌, ap, subst, arith}
-use Rattle.std.specs.List.{count_by, filter}
+use Rattle.std.specs.List.{count_by}
 use Rattle.std.proofs.lemmas.List.Sums.{count_by-le-length, sum_by-cons}
 use Rattle.bye_terms.specs.Members.{In}
-use Rattle.bye_terms.proofs.Tests.{not_both}
 use Rattle.bye_table.specs.Domains.{BindsEach, IsBelow, Wanted}
 use Rattle.bye_table.specs.DomainTrees.{Domain, IsDomainTree, IsFirstOfClass, Subdomains, also, domain, label, none}
 use Rattle.bye_table.specs.Mappings.{Mapping, Name}

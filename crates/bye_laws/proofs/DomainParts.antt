@@ -1,5 +1,5 @@
 -- The labels right below a node of a tree of domains are those of its children.
-use Rattle.std.proofs.Common.{◌≡◌, refl, Bool, true, false, cond, List, [], ◌∷◌, ◌⊎◌, inl, inr, ⊎_elim, sym, ◌∙◌, subst, ◌↔◌}
+use Rattle.std.proofs.Common.{◌≡◌, refl, Bool, true, false, cond, List, [], ◌∷◌, inl, inr, ⊎_elim, sym, ◌∙◌, subst}
 use Rattle.std.specs.List.{AllByRecursion, filter}
 use Rattle.bye_terms.specs.Members.{In}
 use Rattle.bye_terms.proofs.Lists.{filtered, in_filtered}
@@ -8,7 +8,7 @@ use Rattle.bye_table.specs.Domains.{IsBefore, IsBelow, IsWithin, Wanted}
 use Rattle.bye_table.specs.DomainTrees.{AreOrdered, Domain, IsDomainTree, IsLabel, IsLabelIn, IsOrdered, Subdomains, also, domain, label, none}
 use Rattle.bye_table.specs.Mappings.{Mapping, Name}
 use Rattle.bye_laws.specs.Completeness.{AreExamples}
-use Rattle.bye_laws.specs.DomainNodes.{AreLabels, IsChildAmong, TellsChildren}
+use Rattle.bye_laws.specs.DomainNodes.{AreLabels, TellsChildren}
 use Rattle.bye_laws.specs.Ordering.{IsSorted}
 use Rattle.bye_laws.proofs.DomainLabels.{IsTopIn, beside_apart, beside_before, label_self, top_label, top_over}
 use Rattle.bye_laws.proofs.DomainTrees.{one_first}
@@ -127,9 +127,9 @@ child_top w labels is_child all x ds l p y h =
     ⊎_elim
     (λ e. in_tops ds y (subst (IsTopIn ds) e top.1))
     (λ b.
-        let t = top.0 in
-        let there = top_label ds t top.1 in
-        absurd (c.none t (to_labels w labels is_child all l t (p.inside t there)) b (p.ordered.0 t there)))
+    let t = top.0 in
+    let there = top_label ds t top.1 in
+    absurd (c.none t (to_labels w labels is_child all l t (p.inside t there)) b (p.ordered.0 t there)))
     top.2
 
 -- and the label of a child is right below

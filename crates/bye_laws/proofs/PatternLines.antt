@@ -1,5 +1,5 @@
 -- Two valid patterns with one line are one pattern, so of two different ones exactly one is tried before the other.
-use Rattle.std.proofs.Common.{◌≡◌, refl, ℕ, ◌<◌, Bool, true, false, ◌==◌, List, [], ◌∷◌, ◌++◌, Option, Some, None, length, codes, inl, inr, ◌⊎◌, ⊎_elim, sym, ◌∙◌, ap, subst, arith, append_assoc, Ordering, Less, Equal, Greater}
+use Rattle.std.proofs.Common.{◌≡◌, refl, ℕ, Bool, true, false, ◌==◌, List, [], ◌∷◌, ◌++◌, Option, Some, None, codes, inl, inr, ◌⊎◌, ⊎_elim, sym, ◌∙◌, ap, subst, arith, append_assoc, Ordering, Less, Equal, Greater}
 use Rattle.std.specs.List.{AllByRecursion, list_all}
 use Rattle.std.specs.Ordering.{is_eq, is_lt, nat_cmp, ordering_reverse, ordering_then}
 use Rattle.std.specs.Cmp.Lexicographic.{slice_cmp}
@@ -145,7 +145,7 @@ line_one p q a b e =
     let cut = append_cancel_right (slot_text p.s ++ codes " " ++ slot_text p.p ++ codes " " ++ slot_text p.o) (slot_text q.s ++ codes " " ++ slot_text q.p ++ codes " " ++ slot_text q.o) (codes " .") text in
     let flat = sym (regroup (slot_text p.s) (slot_text p.p) (slot_text p.o)) ∙ cut ∙ regroup (slot_text q.s) (slot_text q.p) (slot_text q.o) in
     let first = split_space (slot_text p.s) (slot_text q.s) (slot_text p.p ++ 32 ∷ slot_text p.o) (slot_text q.p ++ 32 ∷ slot_text q.o)
-        (place_free p.s a.subject_place a.subject) (place_free q.s b.subject_place b.subject) flat in
+    (place_free p.s a.subject_place a.subject) (place_free q.s b.subject_place b.subject) flat in
     let second = split_space (slot_text p.p) (slot_text q.p) (slot_text p.o) (slot_text q.o) (place_free p.p a.predicate_place a.predicate) (place_free q.p b.predicate_place b.predicate) first.1 in
     let s = slot_one p.s q.s a.subject b.subject first.0 in
     let r = slot_one p.p q.p a.predicate b.predicate second.0 in

@@ -1,5 +1,5 @@
 -- Lists in strict order: a finite list has one with the same members, and there is one alone.
-use Rattle.std.proofs.Common.{◌≡◌, refl, true, false, List, [], ◌∷◌, ◌⊎◌, inl, inr, ⊎_elim, sym, ◌∙◌, ap, subst, ◌↔◌}
+use Rattle.std.proofs.Common.{◌≡◌, refl, true, List, [], ◌∷◌, ◌⊎◌, inl, inr, ⊎_elim, sym, ◌∙◌, ap, subst, ◌↔◌}
 use Rattle.std.specs.List.{AllByRecursion}
 use Rattle.std.specs.Ordering.{is_lt}
 use Rattle.bye_terms.specs.Members.{EachOnce, In}
@@ -11,11 +11,10 @@ use Rattle.bye_pattern.specs.declared.kind.Kind.{Kind}
 use Rattle.bye_pattern.specs.declared.kind.Kind.TheVariants as kinds
 use Rattle.bye_table.specs.Domains.{IsBefore}
 use Rattle.bye_table.specs.Mappings.{Name}
-use Rattle.bye_pattern.specs.Conditions.{cond_vars}
 use Rattle.bye_pattern.specs.Patterns.{Pattern}
 use Rattle.bye_pattern.specs.Starting.{AreInTrialOrder, IsKindBefore, IsTriedBefore}
 use Rattle.bye_pattern.specs.TrialOrder.{IsInStrictOrder, trial_cmp}
-use Rattle.bye_pattern.proofs.Orders.{trial_total, trial_weak}
+use Rattle.bye_pattern.proofs.Orders.{trial_weak}
 use Rattle.bye_laws.specs.Ordering.{AreOrderable, HaveSameMembers, IsSorted, IsValidPattern, SortedListsAreOneAndThere}
 use Rattle.bye_laws.proofs.DomainTrees.{before_in, one_before}
 use Rattle.bye_laws.proofs.KeptQueries.{conditions_apart, patterns_apart, sorted_same, tried_in_order, tried_strictly}

@@ -1,5 +1,5 @@
 -- There is a start of each class exactly where no claim about domains shows: its nodes are the strongest ones.
-use Rattle.std.proofs.Common.{◌≡◌, refl, ℕ, true, List, [], ◌∷◌, inl, inr, ⊎_elim, sym, subst, ◌↔◌}
+use Rattle.std.proofs.Common.{◌≡◌, refl, ℕ, true, List, [], inl, inr, ⊎_elim, sym, subst}
 use Rattle.std.specs.List.{AllByRecursion}
 use Rattle.bye_terms.specs.Members.{In}
 use Rattle.bye_terms.specs.Names.{is_name}

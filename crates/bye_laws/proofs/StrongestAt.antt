@@ -1,6 +1,5 @@
 -- The strongest node over Up(x) and the rows that bind x is the start's node of x.
-use Rattle.std.proofs.Common.{◌≡◌, refl, true, List, [], ◌∷◌, ◌⊎◌, inl, inr, ⊎_elim, sym, subst, ◌↔◌}
-use Rattle.std.specs.List.{AllByRecursion}
+use Rattle.std.proofs.Common.{◌≡◌, refl, true, List, [], ◌∷◌, inl, inr, ⊎_elim, sym, subst, ◌↔◌}
 use Rattle.std.specs.Ordering.{is_lt}
 use Rattle.bye_terms.specs.Members.{EachOnce, In}
 use Rattle.bye_terms.specs.Terms.{Statement}

@@ -24,7 +24,7 @@ use Rattle.bye_pattern.specs.Patterns.{Becomes, IsNamed, Meets, Pattern, slot_un
 use Rattle.bye_pattern.specs.Starting.{AreInTrialOrder, IsInForm}
 use Rattle.bye_pattern.specs.TrialOrder.{IsInStrictOrder}
 use Rattle.bye_pattern.proofs.Standing.{predicate_place, subject_place}
-use Rattle.bye_laws.specs.Ordering.{AreOrderable, HaveSameMembers, IsValidPattern, IsValidSlot}
+use Rattle.bye_laws.specs.Ordering.{IsValidPattern, IsValidSlot}
 use Rattle.bye_laws.specs.Strongest.{AreNames, IsStrongestNode, IsValidTriple}
 use Rattle.bye_laws.proofs.AllConjuncts.{cond_in, cond_shapes, same_of, shape_in, shapes}
 use Rattle.bye_laws.proofs.Deciding.{both_or_not, each_decided, either_or_not, picked, same_decided, some_decided, true_or_not, value_or_not}
