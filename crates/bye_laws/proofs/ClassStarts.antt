@@ -15,7 +15,8 @@ use Rattle.bye_laws.specs.LocalPass.{AreOver, IsOver}
 use Rattle.bye_laws.proofs.ByNodes.{class_at}
 use Rattle.bye_laws.proofs.CommonConditions.{lower}
 use Rattle.bye_laws.proofs.DomainLabels.{label_self}
-use Rattle.bye_laws.proofs.Labelled.{AllCommon, AllCommonIn, AreDomains}
+use Rattle.bye_laws.specs.QueryDomains.{AreDomains}
+use Rattle.bye_laws.proofs.Labelled.{AllCommon, AllCommonIn}
 use Rattle.bye_laws.proofs.StartTrees.{Start, StartIn, group_over, root_start, start_down, start_first, start_rest, strictly}
 use Rattle.bye_laws.proofs.Withins.{within_or_not, within_self, within_trans}
 

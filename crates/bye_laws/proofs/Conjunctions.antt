@@ -21,7 +21,8 @@ use Rattle.bye_pattern.specs.Patterns.{Meets, Pattern, all_vars, vars}
 use Rattle.bye_pattern.specs.Starting.{IsCommonAt, IsCommonCondAt}
 use Rattle.bye_pattern.specs.Trees.{Forest, Select, Tree, alg, leaf, more, node, own_conds, own_triples, plain_select}
 use Rattle.bye_pattern.proofs.OneGroup.{all_vars_in, answer_meets, fits_meets, in_all_vars, meets_fits, root_rules}
-use Rattle.bye_laws.proofs.Passes.{Lifts, Tried, TriedForest, Within, within_more}
+use Rattle.bye_laws.specs.Parts.{Within}
+use Rattle.bye_laws.proofs.Passes.{Lifts, Tried, TriedForest, within_more}
 
 -- what makes a group one of a query of the class
 pub record IsGroupFor (level : Level) (vs : List Name) (ps : List Pattern) (cs : List Cond) : Type 0 where

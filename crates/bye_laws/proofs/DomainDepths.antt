@@ -8,7 +8,7 @@ use Rattle.bye_table.specs.DomainTrees.{Domain, IsDomainTree, IsFirstOfClass, Su
 use Rattle.bye_table.specs.Mappings.{Mapping, Name}
 use Rattle.bye_laws.specs.Completeness.{AreExamples}
 use Rattle.bye_laws.specs.DomainNodes.{AreLabels, DomainTreesByDepth, IsChildAmong, TellsChildren, subdomains_of, tree_at}
-use Rattle.bye_laws.proofs.Deciding.{is_so, not_so, so_from, so_to}
+use Rattle.bye_laws.proofs.Decided.{is_so, not_so, so_from, so_to}
 use Rattle.bye_laws.proofs.DomainLabels.{IsTopIn, label_self, top_label}
 use Rattle.bye_laws.proofs.DomainNodes.{labels_one, labels_there}
 use Rattle.bye_laws.proofs.DomainParts.{ArePart, IsListed, IsPart, below_trans, children_are, children_part, first_part, not_below_self, rest_part, to_labels, tops, whole_part}

@@ -24,8 +24,7 @@ use Rattle.bye_pattern.specs.TrialOrder.{IsInStrictOrder, trial_cmp}
 use Rattle.bye_pattern.proofs.Orders.{trial_weak}
 use Rattle.bye_laws.specs.Completeness.{Allows, AreExamples}
 use Rattle.bye_laws.specs.Ordering.{IsSorted}
-use Rattle.bye_laws.proofs.ClassStarts.{class_is_over}
-use Rattle.bye_laws.proofs.Conjunctions.{conjunctions_lift}
+use Rattle.bye_laws.proofs.AnyRight.{passes_keep_right}
 use Rattle.bye_laws.proofs.Examples.{one_seen_list}
 use Rattle.bye_laws.proofs.Once.{once_tree, some_tree}
 use Rattle.bye_laws.proofs.OneDomainTree.{not_both_before, one_domain_tree}
@@ -169,41 +168,10 @@ something_is_kept class level g w unwanted start begun decide =
     let pass = some_tree (λ t. IsRight class level g w.rows unwanted (plain_select start.vars t)) (λ t. decide (plain_select start.vars t)) start.tree in
     (plain_select start.vars pass.0, record { start = start; tree = pass.0; begun = begun; thinned = pass.1; query = refl })
 
--- what one pass from a right start leaves, for both classes
-pass_done : (class : Class) (level : Level) (g : List Statement) (w : Wanted) (unwanted : List Mapping) (start : Select) (t : Tree) → AreExamples w → Allows class unwanted → IsStart class level g w start
-    → IsRight class level g w.rows unwanted (plain_select start.vars start.tree) → IsThinnedTree (λ u. IsRight class level g w.rows unwanted (plain_select start.vars u)) start.tree t
-    → IsRight class level g w.rows unwanted (plain_select start.vars t) × ((u : Tree) → Drops t u → IsRight class level g w.rows unwanted (plain_select start.vars u) → ⊥)
-pass_done And level g w unwanted start t examples allowed begun right pass =
-    let done = thin_tree (λ u. IsRight And level g w.rows unwanted (plain_select start.vars u)) start.tree t (conjunctions_lift level g w.rows unwanted start.vars) right pass in
-    (done.right, done.minimal)
-pass_done Optional level g w unwanted start t examples allowed begun right pass =
-    let p = optional_parts level g w start examples begun in
-    let vars : start.vars ≡ p.vs = ap (λ (s : Select). s.vars) p.is in
-    let tree : start.tree ≡ p.tree = ap (λ (s : Select). s.tree) p.is in
-    let R : List Mapping → List Name → Tree → Type 0 = λ bad vs u. IsRight Optional level g w.rows bad (plain_select vs u) in
-    let right_here : R [] p.vs p.tree = subst (λ vs. R [] vs p.tree) vars (subst (R [] start.vars) tree (subst (λ bad. R bad start.vars start.tree) allowed right)) in
-    let pass_here : IsThinnedTree (R [] p.vs) p.tree t = subst (λ vs. IsThinnedTree (R [] vs) p.tree t) vars (subst (λ s. IsThinnedTree (R [] start.vars) s t) tree (subst (λ bad. IsThinnedTree (R bad start.vars) start.tree t) allowed pass)) in
-    let done = optional_kept level g w.rows p.vs p.domains p.tree t p.selects p.over (class_is_over level g w.vars w.rows p.vs p.domains p.tree p.over p.all right_here.in_class) right_here pass_here in
-    let back : (u : Tree) → R [] p.vs u ≡ R unwanted start.vars u = λ u. (λ i. R (sym allowed i) (sym vars i) u) in
-    (coerce (back t) done.0, λ u drop h. done.1 u drop (coerce (sym (back u)) h))
-  where
-    coerce : {A B : Type 0} → A ≡ B → A → B
-    coerce e a = subst (λ X. X) e a
-
 -- it is right and minimal where the start is right
 pub kept_is_minimal : (class : Class) (level : Level) (g : List Statement) (w : Wanted) (unwanted : List Mapping) (start q : Select) → AreExamples w → Allows class unwanted
     → IsStart class level g w start → IsRight class level g w.rows unwanted start → IsKept class level g w unwanted q → IsRight class level g w.rows unwanted q × IsMinimal class level g w.rows unwanted q
 kept_is_minimal class level g w unwanted start q examples allowed begun right kept =
     let same = one_start class level g w start kept.start examples begun kept.begun in
-    let s = kept.start in
-    let plain : kept.start ≡ plain_select kept.start.vars kept.start.tree = shape kept.start kept.begun.vars kept.begun.tree kept.begun.query in
-    let done = pass_done class level g w unwanted kept.start kept.tree examples allowed kept.begun (subst (IsRight class level g w.rows unwanted) (same ∙ plain) right) kept.thinned in (
-      subst (IsRight class level g w.rows unwanted) (sym kept.query) done.0,
-      λ r (t, drops, e) good.
-          let tree : q.tree ≡ kept.tree = ap (λ (s : Select). s.tree) kept.query in
-          done.1 t (subst (λ u. Drops u t) tree drops)
-          (subst (IsRight class level g w.rows unwanted) (e ∙ (λ i. record { distinct = (kept.query i).distinct; vars = (kept.query i).vars; tree = t; outer = (kept.query i).outer })) good),
-    )
-  where
-    shape : (s : Select) (vs : List Name) (t : Tree) → s ≡ plain_select vs t → s ≡ plain_select s.vars s.tree
-    shape s vs t e = e ∙ (λ i. plain_select (sym e i).vars (sym e i).tree)
+    let left = passes_keep_right class level g w.rows unwanted kept.start kept.tree allowed (subst (IsRight class level g w.rows unwanted) same right) kept.thinned in
+    subst (λ q. IsRight class level g w.rows unwanted q × IsMinimal class level g w.rows unwanted q) (sym kept.query) (left.right, left.minimal)

@@ -7,24 +7,9 @@ use Rattle.bye_table.specs.Mappings.{Mapping, Name}
 use Rattle.bye_table.specs.DomainTrees.{AreOrdered, Domain, IsBeside, IsDomainTree, IsLabel, IsLabelIn, IsOrdered, Subdomains, also, domain, label, none}
 use Rattle.bye_pattern.specs.Starting.{IsStartForest, IsStartTree}
 use Rattle.bye_pattern.specs.Trees.{Forest, Tree, leaf, more, node}
+use Rattle.bye_laws.specs.QueryDomains.{AreDomains, AreNested, AreNestedIn}
 use Rattle.bye_laws.proofs.AllConjuncts.{AreAllAt}
 use Rattle.bye_laws.proofs.DomainLabels.{beside_apart}
-
--- below a node all domains are smaller, and beside one another they are not comparable
-abbrev mutual
-  pub AreNested : List Mapping → Domain → Type 0
-  AreNested rows (domain x ds) = ((y : Name) → IsLabelIn ds y → IsBelow rows y x) × AreNestedIn rows ds
-
-  pub AreNestedIn : List Mapping → Subdomains → Type 0
-  AreNestedIn rows none = Unit {0}
-  AreNestedIn rows (also d ds) = ((x y : Name) → IsLabel d x → IsLabelIn ds y → (IsWithin rows x y → ⊥) × (IsWithin rows y x → ⊥)) × AreNested rows d × AreNestedIn rows ds
-
--- a tree with a variable of each class; the order of nodes beside one another plays no part
-pub record AreDomains (rows : List Mapping) (d : Domain) : Type 0 where
-  pub seen : (x : Name) → IsLabel d x → IsSeen rows x
-  pub covers : (v : Name) → IsSeen rows v → (x : Name) × IsLabel d x × AreAlike rows x v
-  pub ordered : AreNested rows d
-  pub root : BindsEach rows (label d)
 
 -- at the node of each domain all common conjuncts, in any order
 abbrev mutual

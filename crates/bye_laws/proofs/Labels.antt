@@ -14,7 +14,7 @@ use Rattle.bye_laws.specs.LocalPass.{AreOver, ByDomain, ByDomains, IsOver}
 use Rattle.bye_laws.specs.Nodes.{BindsNew, ByNode}
 use Rattle.bye_laws.specs.Reaching.{IsChild, MeetsNode, NoValues, children}
 use Rattle.bye_laws.proofs.DomainLabels.{label_self}
-use Rattle.bye_laws.proofs.Labelled.{AreDomains, AreNested, AreNestedIn}
+use Rattle.bye_laws.specs.QueryDomains.{AreDomains, AreNested, AreNestedIn}
 use Rattle.bye_laws.proofs.Over.{Named, label_vars, named_new, vars_label}
 use Rattle.bye_laws.proofs.Withins.{seen_up, within_row, within_self, within_trans}
 

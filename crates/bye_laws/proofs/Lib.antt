@@ -20,6 +20,7 @@ pub mod Labels
 pub mod Lifts
 pub mod PassMaps
 pub mod QueryPlaces
+pub mod QueryDomains
 pub mod StartTrees
 pub mod OptionalKept
 pub mod OptionalFits
@@ -30,11 +31,13 @@ pub mod OptionalStarts
 pub mod ClassStarts
 pub mod LocalPass
 pub mod LocalQuestions
+pub mod Decided
+pub mod Served
+pub mod AnyRight
 pub mod KeptQueries
 pub mod BothClasses
 pub mod PatternLines
 pub mod SortedLists
-pub mod Deciding
 pub mod DomainNodes
 pub mod DomainParts
 pub mod DomainDepths

@@ -19,7 +19,8 @@ use Rattle.bye_pattern.proofs.Solutions.{all_told}
 use Rattle.bye_laws.specs.LocalPass.{AreOver, ByDomain, ByDomains, IsOver}
 use Rattle.bye_laws.specs.Reaching.{MeetsNode, NoValues}
 use Rattle.bye_laws.proofs.Conjunctions.{all_vars_within, all_within, tried_within}
-use Rattle.bye_laws.proofs.Passes.{TriedForest, TriedTree, WithinTree}
+use Rattle.bye_laws.specs.Parts.{WithinTree}
+use Rattle.bye_laws.proofs.Passes.{TriedForest, TriedTree}
 use Rattle.bye_laws.proofs.Telling.{all_met_told}
 use Rattle.bye_laws.proofs.Withins.{within_row}
 

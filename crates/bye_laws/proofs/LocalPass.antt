@@ -14,22 +14,20 @@ use Rattle.bye_table.specs.DomainTrees.{Domain, IsDomainTree, Subdomains, also, 
 use Rattle.bye_pattern.specs.Starting.{IsStartTree}
 use Rattle.bye_pattern.specs.Trees.{Forest, Tree, leaf, more, node, plain_select}
 use Rattle.bye_laws.specs.Completeness.{AreExamples}
-use Rattle.bye_laws.specs.LocalPass.{AreOver, AreThinnedHere, ByDomain, ByDomains, IsOver, IsSettled, IsThinnedHere}
+use Rattle.bye_laws.specs.LocalPass.{AreOver, AreSettled, AreThinnedHere, ByDomain, ByDomains, IsOver, IsSettled, IsThinnedHere}
 use Rattle.bye_laws.specs.Reaching.{NoValues}
 use Rattle.bye_laws.proofs.ClassStarts.{class_is_over}
-use Rattle.bye_laws.proofs.Labelled.{AreDomains, common_of, domains_of}
-use Rattle.bye_laws.proofs.OptionalKept.{ByLabels, Selects, from_labels, to_labels}
+use Rattle.bye_laws.specs.QueryDomains.{AreDomains}
+use Rattle.bye_laws.proofs.Labelled.{common_of, domains_of}
+use Rattle.bye_laws.specs.QueryDomains.{Selects}
+use Rattle.bye_laws.proofs.OptionalKept.{ByLabels, from_labels, to_labels}
 use Rattle.bye_laws.proofs.OptionalStarts.{selects_of}
 use Rattle.bye_laws.proofs.PassMaps.{forest_map, tree_map}
-use Rattle.bye_laws.proofs.Passes.{WithinTree, tree_within}
-
--- the nodes below one, settled
-record AreSettled (level : Level) (g : List Statement) (rows : List Mapping) (parent : List Name) (z : Name) (ds : Subdomains) (f : Forest) : Type 0 where
-  over : AreOver level rows parent ds f
-  by : AllByRecursion (λ m. ByDomains g m z ds f) rows
+use Rattle.bye_laws.specs.Parts.{WithinTree}
+use Rattle.bye_laws.proofs.Passes.{tree_within}
 
 -- a node stays settled where the nodes below it do
-settled_down : (level : Level) → (g : List Statement) (rows : List Mapping) (parent : List Name) (z x : Name) (ds : Subdomains) (ps : List Pattern) (cs : List Cond) (f e : Forest) → IsSettled level g rows parent z (domain x ds) (node ps cs f)
+pub settled_down : (level : Level) → (g : List Statement) (rows : List Mapping) (parent : List Name) (z x : Name) (ds : Subdomains) (ps : List Pattern) (cs : List Cond) (f e : Forest) → IsSettled level g rows parent z (domain x ds) (node ps cs f)
     → AreSettled level g rows (all_vars ps) x ds e ↔ IsSettled level g rows parent z (domain x ds) (node ps cs e)
 settled_down level g rows parent z x ds ps cs f e s = (
   λ below. record {
@@ -44,11 +42,11 @@ settled_down level g rows parent z x ds ps cs f e s = (
 )
 
 -- the nodes below a settled node
-children_of : (level : Level) → (g : List Statement) (rows : List Mapping) (parent : List Name) (z x : Name) (ds : Subdomains) (ps : List Pattern) (cs : List Cond) (f : Forest) → IsSettled level g rows parent z (domain x ds) (node ps cs f) → AreSettled level g rows (all_vars ps) x ds f
+pub children_of : (level : Level) → (g : List Statement) (rows : List Mapping) (parent : List Name) (z x : Name) (ds : Subdomains) (ps : List Pattern) (cs : List Cond) (f : Forest) → IsSettled level g rows parent z (domain x ds) (node ps cs f) → AreSettled level g rows (all_vars ps) x ds f
 children_of level g rows parent z x ds ps cs f s = (settled_down level g rows parent z x ds ps cs f f s).1 s
 
 -- the first of nodes beside one another
-first_of_in : (level : Level) → (g : List Statement) (rows : List Mapping) (parent : List Name) (z : Name) (d : Domain) (ds : Subdomains) (t : Tree) (f : Forest) → AreSettled level g rows parent z (also d ds) (more t f) → IsSettled level g rows parent z d t
+pub first_of_in : (level : Level) → (g : List Statement) (rows : List Mapping) (parent : List Name) (z : Name) (d : Domain) (ds : Subdomains) (t : Tree) (f : Forest) → AreSettled level g rows parent z (also d ds) (more t f) → IsSettled level g rows parent z d t
 first_of_in level g rows parent z d ds t f s = record {
   over = s.over.0;
   by = all_from (λ m. ByDomain g m d t) rows (λ m row. (all_in (λ m. ByDomains g m z (also d ds) (more t f)) rows m s.by row).1);
@@ -56,14 +54,14 @@ first_of_in level g rows parent z d ds t f s = record {
 }
 
 -- and the others
-rest_of_in : (level : Level) → (g : List Statement) (rows : List Mapping) (parent : List Name) (z : Name) (d : Domain) (ds : Subdomains) (t : Tree) (f : Forest) → AreSettled level g rows parent z (also d ds) (more t f) → AreSettled level g rows parent z ds f
+pub rest_of_in : (level : Level) → (g : List Statement) (rows : List Mapping) (parent : List Name) (z : Name) (d : Domain) (ds : Subdomains) (t : Tree) (f : Forest) → AreSettled level g rows parent z (also d ds) (more t f) → AreSettled level g rows parent z ds f
 rest_of_in level g rows parent z d ds t f s = record {
   over = s.over.1;
   by = all_from (λ m. ByDomains g m z ds f) rows (λ m row. (all_in (λ m. ByDomains g m z (also d ds) (more t f)) rows m s.by row).2);
 }
 
 -- together again
-both_in : (level : Level) → (g : List Statement) (rows : List Mapping) (parent : List Name) (z : Name) (d : Domain) (ds : Subdomains) (t : Tree) (f : Forest) → IsSettled level g rows parent z d t → AreSettled level g rows parent z ds f → AreSettled level g rows parent z (also d ds) (more t f)
+pub both_in : (level : Level) → (g : List Statement) (rows : List Mapping) (parent : List Name) (z : Name) (d : Domain) (ds : Subdomains) (t : Tree) (f : Forest) → IsSettled level g rows parent z d t → AreSettled level g rows parent z ds f → AreSettled level g rows parent z (also d ds) (more t f)
 both_in level g rows parent z d ds t f a b = record {
   over = (a.over, b.over);
   by = all_from (λ m. ByDomains g m z (also d ds) (more t f)) rows (λ m row.
@@ -71,7 +69,7 @@ both_in level g rows parent z d ds t f a b = record {
 }
 
 -- what is thinned from right is right
-thinned_right : {X : Type 0} (R : List X → Type 0) (xs r : List X) → R xs → IsThinned R xs r → R r
+pub thinned_right : {X : Type 0} (R : List X → Type 0) (xs r : List X) → R xs → IsThinned R xs r → R r
 thinned_right R [] r h e = subst R (sym e) h
 thinned_right R (x ∷ xs) r h (inl (now, pass)) = thinned_right R xs r now pass
 thinned_right {X} R (x ∷ xs) r h (inr (never, (ys, pass, e))) = subst R (sym e) (thinned_right (λ zs. R (x ∷ zs)) xs ys h pass)
@@ -96,7 +94,7 @@ mutual
         subst (IsSettled level g rows parent z (domain x ds)) (sym same) (thinned_right (λ qs. IsSettled level g rows parent z (domain x ds) (node qs es e)) ps qs after triples),
       )
 
-  local_forest : (level : Level) → (g : List Statement) (rows : List Mapping) (parent : List Name) (z : Name) (ds : Subdomains) (f r : Forest) → AreSettled level g rows parent z ds f → AreThinnedHere level g rows parent z ds f r
+  pub local_forest : (level : Level) → (g : List Statement) (rows : List Mapping) (parent : List Name) (z : Name) (ds : Subdomains) (f r : Forest) → AreSettled level g rows parent z ds f → AreThinnedHere level g rows parent z ds f r
       → IsThinnedForest (AreSettled level g rows parent z ds) f r × AreSettled level g rows parent z ds r
   local_forest level g rows parent z ds leaf r s e = (e, subst (AreSettled level g rows parent z ds) (sym e) s)
   local_forest level g rows parent z none (more t f) r s h = absurd h
@@ -116,7 +114,7 @@ mutual
       )
 
 -- the root is always shut
-root_settled : (level : Level) → (g : List Statement) (rows : List Mapping) (d : Domain) (u : Tree) → ByLabels level g rows d u → IsSettled level g rows [] (label d) d u
+pub root_settled : (level : Level) → (g : List Statement) (rows : List Mapping) (d : Domain) (u : Tree) → ByLabels level g rows d u → IsSettled level g rows [] (label d) d u
 root_settled level g rows d u b = record { over = b.over; by = b.by; shut = all_from (λ m. Binds m (label d) → (Binds m (label d) → ⊥) → NoValues g m u) rows (λ m row k n. absurd (n k)) }
 
 -- from the root the pass is the one over the whole tree

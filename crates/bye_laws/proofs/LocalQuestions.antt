@@ -21,7 +21,7 @@ use Rattle.bye_pattern.specs.Trees.{Forest, leaf, node, plain_select}
 use Rattle.bye_pattern.proofs.OneGroup.{fits_meets, meets_fits}
 use Rattle.bye_laws.specs.LocalPass.{AreOver, ByDomain, IsSettled, IsShut}
 use Rattle.bye_laws.proofs.Conjunctions.{all_vars_within, all_within, group_of, of_group}
-use Rattle.bye_laws.proofs.Passes.{Within}
+use Rattle.bye_laws.specs.Parts.{Within}
 
 -- a condition may go exactly where no search finds values
 pub drop_cond : (level : Level) → (g : List Statement) (rows : List Mapping) (parent : List Name) (z x : Name) (ds : Subdomains) (ps : List Pattern) (cs es : List Cond) (f : Forest) → Within es cs → IsSettled level g rows parent z (domain x ds) (node ps cs f)
@@ -71,40 +71,3 @@ drop_triple level g rows parent z x ds ps qs cs f within s = (
     shut = shut;
   },
 )
-
--- in the class of one conjunction
-pub drop_of_conjunction : (level : Level) → (g : List Statement) (rows unwanted : List Mapping) (vs : List Name) (ps qs : List Pattern) (cs es : List Cond)
-    → Within qs ps → Within es cs → (vs ≡ [] → ⊥) → IsRight And level g rows unwanted (plain_select vs (node ps cs leaf))
-    → IsRight And level g rows unwanted (plain_select vs (node qs es leaf))
-    ↔ (((v : Name) → In vs v → In (all_vars qs) v) × AllByRecursion (λ m. MeetsAll g (plain_select vs (node qs es leaf)) m → ⊥) unwanted)
-drop_of_conjunction level g rows unwanted vs ps qs cs es fewer less some right = (
-  (λ rest. (
-    (λ v h. ((group_of level (plain_select vs (node qs es leaf)) rest.in_class).selects v).0 h),
-    (fits_meets level g rows unwanted (plain_select vs (node qs es leaf)) rest.in_class rest.fits).1,
-  )),
-  (λ (cover, away).
-      let one = group_of level (plain_select vs (node ps cs leaf)) right.in_class in
-      let met = fits_meets level g rows unwanted (plain_select vs (node ps cs leaf)) right.in_class right.fits in
-      let first = first_name vs some in
-      let class = of_group level vs qs es (record {
-        some = (first.0, cover first.0 first.1);
-        safe = all_from (IsSafe [] qs) es (λ k h v i. inl (cover v ((one.selects v).1 (⊎_elim (λ j. j) (λ n. absurd n) (all_in (IsSafe [] ps) cs k one.safe (less k h) v i)))));
-        triples = all_within IsClassTriple qs ps fewer one.triples;
-        conditions = all_within (IsClassCond level) es cs less one.conditions;
-        once = one.once;
-        selects = λ v. (cover v, (λ h. (one.selects v).1 (all_vars_within qs ps v fewer h)));
-      }) in
-      record {
-        in_class = class;
-        fits = meets_fits level g rows unwanted (plain_select vs (node qs es leaf)) class (
-          all_from (MeetsAll g (plain_select vs (node qs es leaf))) rows (λ m row.
-              let is = all_in (MeetsAll g (plain_select vs (node ps cs leaf))) rows m met.0 row in
-              record { binds = is.binds; triples = all_within (Meets g m) qs ps fewer is.triples; conds = all_within (MeetsCond m) es cs less is.conds }),
-          away,
-        );
-      }),
-)
-  where
-    first_name : (vs : List Name) → (vs ≡ [] → ⊥) → (v : Name) × In vs v
-    first_name [] h = absurd (h refl)
-    first_name (v ∷ vs) h = (v, inl refl)

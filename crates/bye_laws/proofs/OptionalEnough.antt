@@ -22,8 +22,10 @@ use Rattle.bye_laws.specs.Reaching.{MeetsNode}
 use Rattle.bye_laws.proofs.CommonConditions.{in_form}
 use Rattle.bye_laws.proofs.DomainLabels.{label_self}
 use Rattle.bye_laws.proofs.Examples.{in_at}
-use Rattle.bye_laws.proofs.Labelled.{AllCommon, AllCommonIn, AreDomains}
-use Rattle.bye_laws.proofs.OptionalKept.{Selects, from_labels}
+use Rattle.bye_laws.specs.QueryDomains.{AreDomains}
+use Rattle.bye_laws.proofs.Labelled.{AllCommon, AllCommonIn}
+use Rattle.bye_laws.specs.QueryDomains.{Selects}
+use Rattle.bye_laws.proofs.OptionalKept.{from_labels}
 use Rattle.bye_laws.proofs.StartTrees.{Start, StartIn, own_from, root_start, start_down, start_first, start_is_over, start_rest, strictly}
 use Rattle.bye_laws.proofs.Telling.{all_meets_bind, met_told}
 use Rattle.bye_laws.proofs.Withins.{alike_or_not, seen_up, within_or_not, within_row}

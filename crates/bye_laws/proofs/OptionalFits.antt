@@ -27,9 +27,11 @@ use Rattle.bye_laws.proofs.ByNodes.{Answers, by_nodes, class_at, once_designed, 
 use Rattle.bye_laws.proofs.CommonConditions.{in_form}
 use Rattle.bye_laws.proofs.DomainLabels.{label_self}
 use Rattle.bye_laws.proofs.Examples.{at_in}
-use Rattle.bye_laws.proofs.Labelled.{AllCommon, AllCommonIn, AreDomains}
+use Rattle.bye_laws.specs.QueryDomains.{AreDomains}
+use Rattle.bye_laws.proofs.Labelled.{AllCommon, AllCommonIn}
 use Rattle.bye_laws.proofs.Lifts.{weaker}
-use Rattle.bye_laws.proofs.OptionalKept.{Selects, from_labels}
+use Rattle.bye_laws.specs.QueryDomains.{Selects}
+use Rattle.bye_laws.proofs.OptionalKept.{from_labels}
 use Rattle.bye_laws.proofs.QueryPlaces.{child_is_below, conjuncts_common, own_up, parent_of, safe_at}
 use Rattle.bye_laws.proofs.StartTrees.{Start, StartIn, own_from, root_start, start_down, start_first, start_is_over, start_rest, strictly}
 use Rattle.bye_laws.proofs.Withins.{seen_up, within_row, within_self, within_trans}

@@ -19,15 +19,17 @@ use Rattle.bye_table.proofs.Merging.{in_or_not}
 use Rattle.bye_pattern.proofs.Places.{fresh}
 use Rattle.bye_laws.specs.LocalPass.{AreOver, ByDomain, IsOver}
 use Rattle.bye_laws.specs.Nodes.{ByNode}
+use Rattle.bye_laws.specs.QueryDomains.{AreDomains, Selects}
 use Rattle.bye_laws.specs.Reaching.{IsChild}
 use Rattle.bye_laws.proofs.ByNodes.{by_nodes, class_at, once_designed, order_at}
 use Rattle.bye_laws.proofs.Conjunctions.{all_vars_within, all_within}
-use Rattle.bye_laws.proofs.Labelled.{AreDomains}
+use Rattle.bye_laws.specs.QueryDomains.{AreDomains}
 use Rattle.bye_laws.proofs.Labels.{Here, HereIn, by_labels, here_down, here_first, here_rest, over_selects, root_here}
 use Rattle.bye_laws.proofs.Lifts.{by_lifts, over_lifts}
 use Rattle.bye_laws.proofs.Over.{over_optional}
 use Rattle.bye_laws.proofs.PassMaps.{tree_map, tree_trans, within_drops, within_tree}
-use Rattle.bye_laws.proofs.Passes.{WithinForest, WithinTree, thin_tree, tree_within}
+use Rattle.bye_laws.specs.Parts.{WithinForest, WithinTree}
+use Rattle.bye_laws.proofs.Passes.{thin_tree, tree_within}
 use Rattle.bye_laws.proofs.QueryPlaces.{child_node, safe_at}
 use Rattle.bye_laws.proofs.Withins.{within_or_not, within_self, within_trans}
 
@@ -67,11 +69,6 @@ mutual
     labels level rows q class high low d t u (here_first level rows high d ds t f here) w.0 (λ p v i. at p v (inl i)) (fresh u (inl refl)),
     labels_in level rows q class high low ds f h (here_rest level rows high d ds t f here) w.1 (λ p v i. at p v (inr i)) (λ c k. fresh c (inr k)),
   )
-
--- the table's variables that are selected
-pub record Selects (rows : List Mapping) (vs : List Name) : Type 0 where
-  pub once : EachOnce vs
-  pub same : (v : Name) → In vs v ↔ IsSeen rows v
 
 -- right by the variables of domains
 pub record ByLabels (level : Level) (g : List Statement) (rows : List Mapping) (d : Domain) (u : Tree) : Type 0 where

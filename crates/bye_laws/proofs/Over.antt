@@ -13,7 +13,7 @@ use Rattle.bye_pattern.specs.Trees.{Forest, Tree, forest_vars, leaf, more, node,
 use Rattle.bye_pattern.proofs.FourRules.{at_once}
 use Rattle.bye_laws.specs.LocalPass.{AreOver, IsGroupOf, IsOver}
 use Rattle.bye_laws.proofs.ByNodes.{new_at}
-use Rattle.bye_laws.proofs.Labelled.{AreDomains, AreNested, AreNestedIn}
+use Rattle.bye_laws.specs.QueryDomains.{AreDomains, AreNested, AreNestedIn}
 use Rattle.bye_laws.proofs.Withins.{seen_up, within_or_not, within_row, within_self, within_trans}
 
 -- a variable of the tree is around a variable of some domain, and the class of each domain is in the tree

@@ -4,10 +4,11 @@ use Rattle.bye_terms.specs.Members.{In}
 use Rattle.bye_pattern.specs.Conjuncts.{Drops, DropsIn, Less}
 use Rattle.bye_pattern.specs.Keeping.{IsThinned, IsThinnedForest, IsThinnedTree}
 use Rattle.bye_pattern.specs.Trees.{Forest, Tree, leaf, more, node}
-use Rattle.bye_laws.proofs.Passes.{Within, WithinForest, WithinTree, forest_within, tree_within, within_more}
+use Rattle.bye_laws.specs.Parts.{Within, WithinForest, WithinTree}
+use Rattle.bye_laws.proofs.Passes.{forest_within, tree_within, within_more}
 
 -- what a pass over a list keeps is of the list
-within_thinned : {X : Type 0} (R : List X → Type 0) (xs r : List X) → IsThinned R xs r → Within r xs
+pub within_thinned : {X : Type 0} (R : List X → Type 0) (xs r : List X) → IsThinned R xs r → Within r xs
 within_thinned R [] r e = λ x h. subst (λ r. In r x) e h
 within_thinned R (x ∷ xs) r (inl (now, pass)) = λ y h. inr (within_thinned R xs r pass y h)
 within_thinned {X} R (x ∷ xs) r (inr (never, (ys, pass, e))) = λ y h. within_more x ys xs (within_thinned (λ zs. R (x ∷ zs)) xs ys pass) y (subst (λ r. In r y) e h)

@@ -6,21 +6,7 @@ use Rattle.bye_pattern.specs.Conjuncts.{Drops, DropsIn, Less}
 use Rattle.bye_pattern.specs.Keeping.{IsThinned, IsThinnedForest, IsThinnedTree}
 use Rattle.bye_pattern.specs.Patterns.{Pattern}
 use Rattle.bye_pattern.specs.Trees.{Forest, Tree, leaf, more, node}
-
--- each element of the first list is one of the second
-abbrev pub Within : {X : Type 0} → List X → List X → Type 0
-Within {X} xs ys = (x : X) → In xs x → In ys x
-
--- the same for trees of one shape, node by node
-abbrev mutual
-  pub WithinTree : Tree → Tree → Type 0
-  WithinTree (node ps cs f) (node qs ds e) = Within ps qs × Within cs ds × WithinForest f e
-
-  pub WithinForest : Forest → Forest → Type 0
-  WithinForest leaf leaf = Unit {0}
-  WithinForest leaf (more u e) = ⊥
-  WithinForest (more t f) leaf = ⊥
-  WithinForest (more t f) (more u e) = WithinTree t u × WithinForest f e
+use Rattle.bye_laws.specs.Parts.{Within, WithinForest, WithinTree}
 
 -- b is the third list without one element, and a is b with later ones left out
 abbrev pub Tried : {X : Type 0} → List X → List X → List X → Type 0

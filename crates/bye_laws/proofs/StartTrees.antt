@@ -19,7 +19,8 @@ use Rattle.bye_pattern.proofs.OneGroup.{all_vars_in, in_all_vars}
 use Rattle.bye_laws.specs.LocalPass.{AreOver, IsGroupOf, IsOver}
 use Rattle.bye_laws.proofs.AllConjuncts.{AreAllAt}
 use Rattle.bye_laws.proofs.CommonConditions.{lower}
-use Rattle.bye_laws.proofs.Labelled.{AllCommon, AllCommonIn, AreDomains, AreNested, AreNestedIn}
+use Rattle.bye_laws.specs.QueryDomains.{AreDomains, AreNested, AreNestedIn}
+use Rattle.bye_laws.proofs.Labelled.{AllCommon, AllCommonIn}
 use Rattle.bye_laws.proofs.Withins.{seen_up, within_trans}
 
 -- at a node with all common triples every variable around its domain is covered

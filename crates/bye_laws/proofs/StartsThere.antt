@@ -20,7 +20,7 @@ use Rattle.bye_laws.specs.Beginning.{StartsAreThereAndOne}
 use Rattle.bye_laws.specs.Completeness.{AreExamples}
 use Rattle.bye_laws.specs.Strongest.{AreNames, IsValidTriple}
 use Rattle.bye_laws.proofs.ConjunctionStarts.{one_domain}
-use Rattle.bye_laws.proofs.Deciding.{picked}
+use Rattle.bye_laws.proofs.Decided.{picked}
 use Rattle.bye_laws.proofs.DomainLabels.{label_self}
 use Rattle.bye_laws.proofs.DomainTrees.{domain_tree}
 use Rattle.bye_laws.proofs.Examples.{at_in, seen_list}

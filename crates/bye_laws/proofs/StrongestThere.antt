@@ -27,30 +27,16 @@ use Rattle.bye_pattern.proofs.Standing.{predicate_place, subject_place}
 use Rattle.bye_laws.specs.Ordering.{IsValidPattern, IsValidSlot}
 use Rattle.bye_laws.specs.Strongest.{AreNames, IsStrongestNode, IsValidTriple}
 use Rattle.bye_laws.proofs.AllConjuncts.{cond_in, cond_shapes, same_of, shape_in, shapes}
-use Rattle.bye_laws.proofs.Deciding.{both_or_not, each_decided, either_or_not, picked, same_decided, some_decided, true_or_not, value_or_not}
+use Rattle.bye_laws.proofs.Decided.{all_or_not, both_or_not, each_or_not, either_or_not, meets_or_not, met_or_not, picked, same_decided, test_or_not}
 use Rattle.bye_laws.proofs.DomainTrees.{same_or_not}
 use Rattle.bye_laws.proofs.Examples.{some_row}
 use Rattle.bye_laws.proofs.SortedLists.{ordered_conditions, strict_patterns}
 use Rattle.bye_laws.proofs.Withins.{binds_or_not}
 
--- a pattern becomes a triple or does not
-becomes_or_not : (m : Mapping) (p : Pattern) (f : Statement) → Becomes m p f ⊎ (Becomes m p f → ⊥)
-becomes_or_not m p f =
-    same_decided (λ h. record { s = h.0; p = h.1.0; o = h.1.1 }) (λ b. (b.s, (b.p, b.o)))
-    (both_or_not (value_or_not (slot_under m p.s) f.s) (both_or_not (value_or_not (slot_under m p.p) f.p) (value_or_not (slot_under m p.o) f.o)))
-
--- it is met or is not
-meets_or_not : (g : List Statement) (m : Mapping) (p : Pattern) → Meets g m p ⊎ (Meets g m p → ⊥)
-meets_or_not g m p = some_decided (Becomes m p) (becomes_or_not m p) g
-
--- a fact of each element, as one of the list
-all_decided : {X : Type 0} (P : X → Type 0) → ((x : X) → P x ⊎ (P x → ⊥)) → (xs : List X) → AllByRecursion P xs ⊎ (AllByRecursion P xs → ⊥)
-all_decided P decide xs = same_decided (λ f. all_from P xs f) (λ all x h. all_in P xs x all h) (each_decided P decide xs)
-
 -- a place is named or is not
 named_or_not : (s : Slot) → IsNamed s ⊎ (IsNamed s → ⊥)
 named_or_not (Var v) = inl tt
-named_or_not (Const c) = true_or_not (is_blank c) false
+named_or_not (Const c) = test_or_not (is_blank c) false
 
 -- some name is in a list or none is
 some_name : (vs : List Name) → ((v : Name) × In vs v) ⊎ (((v : Name) × In vs v) → ⊥)
@@ -67,25 +53,15 @@ triple_or_not p =
 common_or_not : (g : List Statement) (header : List Name) (rows : List Mapping) (p : Pattern) → IsCommon g header rows p ⊎ (IsCommon g header rows p → ⊥)
 common_or_not g header rows p =
     same_decided (λ h. record { in_class = h.0; over = h.1.0; holds = h.1.1 }) (λ c. (c.in_class, (c.over, c.holds)))
-    (both_or_not (triple_or_not p) (both_or_not (each_decided (In header) (in_or_not header) (vars p)) (all_decided (λ m. Meets g m p) (λ m. meets_or_not g m p) rows)))
+    (both_or_not (triple_or_not p) (both_or_not (each_or_not (In header) (in_or_not header) (vars p)) (all_or_not (λ m. Meets g m p) (λ m. meets_or_not g m p) rows)))
 
 -- a condition is of the class or is not
 class_or_not : (level : Level) (c : Cond) → IsClassCond level c ⊎ (IsClassCond level c → ⊥)
 class_or_not level (conds.Bound v) = inl tt
 class_or_not level (conds.SameVar v w) = ⊎_elim (λ e. inr (λ n. n e)) (λ n. inl n) (same_or_not v w)
-class_or_not level (conds.SameConst v c) = true_or_not (is_blank c) false
+class_or_not level (conds.SameConst v c) = test_or_not (is_blank c) false
 class_or_not One (conds.KindOf kind v) = inr (λ h. h)
 class_or_not Two (conds.KindOf kind v) = inl tt
-
--- a value is true or is not
-holds_or_not : (o : Option Bool) → (o ≡ Some true) ⊎ (o ≡ Some true → ⊥)
-holds_or_not None = inr (λ e. cc)
-holds_or_not (Some true) = inl refl
-holds_or_not (Some false) = inr (λ e. cc)
-
--- a condition is met or is not
-cond_or_not : (m : Mapping) (c : Cond) → MeetsCond m c ⊎ (MeetsCond m c → ⊥)
-cond_or_not m c = both_or_not (each_decided (Binds m) (binds_or_not m) (cond_vars c)) (holds_or_not (value m (cond_expr c)))
 
 -- a variable stands before another one or does not
 before_or_not : (xs : List Name) (v w : Name) → IsBefore xs v w ⊎ (IsBefore xs v w → ⊥)
@@ -103,7 +79,7 @@ form_or_not header (conds.KindOf kind v) = inl tt
 common_cond_or_not : (level : Level) (header : List Name) (rows : List Mapping) (c : Cond) → IsCommonCond level header rows c ⊎ (IsCommonCond level header rows c → ⊥)
 common_cond_or_not level header rows c =
     same_decided (λ h. record { in_class = h.0; over = h.1.0; holds = h.1.1 }) (λ c. (c.in_class, (c.over, c.holds)))
-    (both_or_not (class_or_not level c) (both_or_not (each_decided (In header) (in_or_not header) (cond_vars c)) (all_decided (λ m. MeetsCond m c) (λ m. cond_or_not m c) rows)))
+    (both_or_not (class_or_not level c) (both_or_not (each_or_not (In header) (in_or_not header) (cond_vars c)) (all_or_not (λ m. MeetsCond m c) (λ m. met_or_not m c) rows)))
 
 -- a place of a pattern that a row meets is valid
 valid_slot : (m : Mapping) (s : Slot) (t : Term) → ((v : Name) → In (slot_vars s) v → is_name v ≡ true) → IsTerm t → slot_under m s ≡ Some t → IsValidSlot s

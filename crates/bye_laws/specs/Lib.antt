@@ -1,8 +1,12 @@
 pub mod Reaching
+pub mod Parts
 pub mod Nodes
 pub mod Completeness
 pub mod Passing
 pub mod LocalPass
+pub mod QueryDomains
+pub mod Settling
+pub mod Serving
 pub mod Ordering
 pub mod DomainNodes
 pub mod Strongest

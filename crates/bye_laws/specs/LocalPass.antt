@@ -60,6 +60,11 @@ pub record IsSettled (level : Level) (g : List Statement) (rows : List Mapping) 
   pub by : AllByRecursion (λ m. ByDomain g m d t) rows
   pub shut : IsShut g rows z (label d) t
 
+-- nodes beside one another, below a parent that z names, are right
+pub record AreSettled (level : Level) (g : List Statement) (rows : List Mapping) (parent : List Name) (z : Name) (ds : Subdomains) (f : Forest) : Type 0 where
+  pub over : AreOver level rows parent ds f
+  pub by : AllByRecursion (λ m. ByDomains g m z ds f) rows
+
 -- the pass, children first, then conditions, then triples
 abbrev mutual
   pub IsThinnedHere : Level → List Statement → List Mapping → List Name → Name → Domain → Tree → Tree → Type 0
@@ -76,20 +81,3 @@ abbrev mutual
 abbrev pub LocalPassKeeps : Type 0
 LocalPassKeeps = (level : Level) (g : List Statement) (w : Wanted) (d : Domain) (vs : List Name) (start t : Tree) → AreExamples w → IsDomainTree w d → AreSelected w vs → IsStartTree level g w d start
     → IsRight Optional level g w.rows [] (plain_select vs start) → IsThinnedHere level g w.rows [] (label d) d start t → IsKept Optional level g w [] (plain_select vs t)
-
--- what is asked before a conjunct of a settled node goes
-pub record LocalQuestions : Type 0 where
-  -- conditions may go exactly where the node stays shut: no search finds values
-  pub conditions : (level : Level) (g : List Statement) (rows : List Mapping) (parent : List Name) (z x : Name) (ds : Subdomains) (ps : List Pattern) (cs es : List Cond) (f : Forest)
-      → ((c : Cond) → In es c → In cs c) → IsSettled level g rows parent z (domain x ds) (node ps cs f)
-      → IsSettled level g rows parent z (domain x ds) (node ps es f) ↔ IsShut g rows z x (node ps es f)
-  -- triples may go exactly where the class stays covered, the node's own conditions stay safe, the children's needs stand, and the node stays shut
-  pub triples : (level : Level) (g : List Statement) (rows : List Mapping) (parent : List Name) (z x : Name) (ds : Subdomains) (ps qs : List Pattern) (cs : List Cond) (f : Forest)
-      → ((p : Pattern) → In qs p → In ps p) → IsSettled level g rows parent z (domain x ds) (node ps cs f)
-      → IsSettled level g rows parent z (domain x ds) (node qs cs f)
-      ↔ (((v : Name) → IsSeen rows v → AreAlike rows x v → In (all_vars qs) v) × AllByRecursion (IsSafe parent qs) cs × AreOver level rows (all_vars qs) ds f × IsShut g rows z x (node qs cs f))
-  -- in the class of one conjunction conjuncts may go exactly where the triples still cover the variables and no unwanted row meets what is left
-  pub conjunction : (level : Level) (g : List Statement) (rows unwanted : List Mapping) (vs : List Name) (ps qs : List Pattern) (cs es : List Cond)
-      → ((p : Pattern) → In qs p → In ps p) → ((c : Cond) → In es c → In cs c) → (vs ≡ [] → ⊥) → IsRight And level g rows unwanted (plain_select vs (node ps cs leaf))
-      → IsRight And level g rows unwanted (plain_select vs (node qs es leaf))
-      ↔ (((v : Name) → In vs v → In (all_vars qs) v) × AllByRecursion (λ m. MeetsAll g (plain_select vs (node qs es leaf)) m → ⊥) unwanted)

@@ -5,8 +5,11 @@
 ghost use Rattle.bye_laws.specs.Reaching.{RowsByReaching};
 ghost use Rattle.bye_laws.specs.Nodes.{AnswersByNode};
 ghost use Rattle.bye_laws.specs.Completeness.{StartsFitIfAny, NoneFitsAsTheStart, CertificatesAreSound, CertificatesAreEnough, DomainTreesByClaims, StartsByCovering};
-ghost use Rattle.bye_laws.specs.Passing.{KeptIsOne, SomethingIsKept, KeptIsMinimal};
-ghost use Rattle.bye_laws.specs.LocalPass.{LocalPassKeeps, LocalQuestions};
+ghost use Rattle.bye_laws.specs.Passing.{KeptIsOne, SomethingIsKept, KeptIsMinimal, PassesKeepRight};
+ghost use Rattle.bye_laws.specs.LocalPass.{LocalPassKeeps};
+ghost use Rattle.bye_laws.specs.QueryDomains.{QueriesAreOverDomains};
+ghost use Rattle.bye_laws.specs.Settling.{PassesAreLocal, Settling};
+ghost use Rattle.bye_laws.specs.Serving.{LocalQuestions};
 ghost use Rattle.bye_laws.specs.Ordering.{OnePattern, SortedListsAreOneAndThere};
 ghost use Rattle.bye_laws.specs.DomainNodes.{DomainNodesAreTold, DomainTreesByDepth};
 ghost use Rattle.bye_laws.specs.Strongest.{StrongestNodes};
@@ -76,6 +79,26 @@ pub fn local_pass_keeps()
 /// What is asked at a node before a conjunct goes.
 pub fn local_questions()
     ensures { LocalQuestions }
+{}
+
+/// What a pass leaves of any query that is right is right and minimal, and a part of it in its order.
+pub fn passes_keep_right()
+    ensures { PassesKeepRight }
+{}
+
+/// A query of the class with OPTIONAL groups is over each tree of variables that are new at its nodes.
+pub fn queries_are_over_domains()
+    ensures { QueriesAreOverDomains }
+{}
+
+/// The way from a query that is right to its nodes, and back.
+pub fn settling()
+    ensures { Settling }
+{}
+
+/// For any query that is right, the pass that asks at each node alone is the pass over the whole query.
+pub fn passes_are_local()
+    ensures { PassesAreLocal }
 {}
 
 /// Valid patterns are told by their written lines, and of two different ones exactly one is tried before the other.
