@@ -51,7 +51,7 @@ shapes_at : List Name → Statement → Slot → Slot → List Pattern
 shapes_at vs f s p = map (λ o. record { s = s; p = p; o = o }) (slots vs f.o)
 
 -- patterns that may become the triple
-shapes : List Name → Statement → List Pattern
+pub shapes : List Name → Statement → List Pattern
 shapes vs f = flat_map (λ s. flat_map (shapes_at vs f s) (slots vs f.p)) (slots vs f.s)
 
 -- an element of a list, mapped
@@ -67,7 +67,7 @@ slot_in vs m (Var v) t inside e = inr (in_map Var vs v (inside v (inl refl)))
 slot_in vs m (Const c) t inside e = inl (ap Const (sym (some_same e)))
 
 -- a pattern over these variables that is met is one of the shapes
-shape_in : (vs : List Name) (m : Mapping) (g : List Statement) (p : Pattern) → ((v : Name) → In (vars p) v → In vs v) → Meets g m p → In (flat_map (shapes vs) g) p
+pub shape_in : (vs : List Name) (m : Mapping) (g : List Statement) (p : Pattern) → ((v : Name) → In (vars p) v → In vs v) → Meets g m p → In (flat_map (shapes vs) g) p
 unfolding shapes shapes_at
 shape_in vs m g p inside (f, there, is) =
     flat_in (shapes vs) g f p there
@@ -88,11 +88,11 @@ kind_conds : Name → List Cond
 kind_conds v = conds.KindOf kinds.Iri v ∷ conds.KindOf kinds.Blank v ∷ conds.KindOf kinds.Literal v ∷ []
 
 -- conditions over these variables that may hold of the mapping
-cond_shapes : List Name → Mapping → List Cond
+pub cond_shapes : List Name → Mapping → List Cond
 cond_shapes vs m = map conds.Bound vs ++ (flat_map (λ v. map (conds.SameVar v) vs) vs ++ (flat_map (λ v. value_conds v (m v)) vs ++ flat_map kind_conds vs))
 
 -- a sameTerm that is true tells the value
-same_of : (o : Option Term) (t : Term) → same_value o (Some t) ≡ Some true → o ≡ Some t
+pub same_of : (o : Option Term) (t : Term) → same_value o (Some t) ≡ Some true → o ≡ Some t
 same_of None t e = cc
 same_of (Some s) t e = let k : same_term s t ≡ true = cc in ap Some (terms_same s t k)
 
@@ -110,7 +110,7 @@ kind_in v kinds.Blank = inr (inl refl)
 kind_in v kinds.Literal = inr (inr (inl refl))
 
 -- a condition over these variables that holds is one of the shapes
-cond_in : (vs : List Name) (m : Mapping) (c : Cond) → ((v : Name) → In (cond_vars c) v → In vs v) → Holds m c → In (cond_shapes vs m) c
+pub cond_in : (vs : List Name) (m : Mapping) (c : Cond) → ((v : Name) → In (cond_vars c) v → In vs v) → Holds m c → In (cond_shapes vs m) c
 unfolding cond_shapes
 cond_in vs m (conds.Bound v) inside h = in_left _ _ (conds.Bound v) (in_map conds.Bound vs v (inside v (inl refl)))
 cond_in vs m (conds.SameVar v w) inside h =

@@ -207,7 +207,7 @@ number_of rows i j m n x at other b lacks = cases (either_less i j)
     cases (inr (inr l)) = inr l
 
 -- without a claim of domains each row binds what some row binds
-one_domain : (g : List Statement) (rows unwanted : List Mapping) → ((i j : ℕ) (x : Name) → ShowsDomains rows i j x → ⊥) → (m : Mapping) → In rows m → (v : Name) → IsSeen rows v → Binds m v
+pub one_domain : (g : List Statement) (rows unwanted : List Mapping) → ((i j : ℕ) (x : Name) → ShowsDomains rows i j x → ⊥) → (m : Mapping) → In rows m → (v : Name) → IsSeen rows v → Binds m v
 one_domain g rows unwanted never m row v seen =
     ⊎_elim (λ b. b) (λ e.
     let lacks : Binds m v → ⊥ = λ b. not_bound (m v) e b in

@@ -1,9 +1,11 @@
--- What is decided: whether terms are equal, whether a mapping meets a conjunct, and whether all of a list do.
-use Rattle.std.proofs.Common.{◌≡◌, refl, Bool, true, false, List, [], ◌∷◌, Option, Some, None, ◌⊎◌, inl, inr, ⊎_elim, sym, ◌∙◌, ap, subst}
-use Rattle.std.specs.List.{AllByRecursion}
+-- What is decided: whether terms are equal, whether a mapping meets a conjunct, and whether all of a list do; and what is decided with it.
+use Rattle.std.proofs.Common.{◌≡◌, refl, Bool, true, false, List, [], ◌∷◌, Option, Some, None, ◌⊎◌, inl, inr, ⊎_elim, sym, ◌∙◌, ap, subst, ◌↔◌}
+use Rattle.std.specs.List.{AllByRecursion, filter}
 use Rattle.bye_terms.specs.declared.term.Term.{Term}
 use Rattle.bye_terms.specs.Members.{In}
 use Rattle.bye_terms.specs.Terms.{Statement}
+use Rattle.bye_terms.proofs.Lists.{filtered, in_filtered}
+use Rattle.bye_terms.proofs.Members.{all_from, all_in}
 use Rattle.bye_terms.proofs.Tests.{bool_cases, not_both}
 use Rattle.bye_table.specs.Mappings.{Mapping, Name}
 use Rattle.bye_table.proofs.Merging.{some_same}
@@ -74,3 +76,61 @@ true_or_not (Some false) = inr (λ e. differ e)
 -- a condition that is met
 pub met_or_not : (m : Mapping) (c : Cond) → MeetsCond m c ⊎ (MeetsCond m c → ⊥)
 met_or_not m c = ⊎_elim (λ h. inl (holds_meets m c h)) (λ never. inr (λ h. never h.1)) (true_or_not (value m (cond_expr c)))
+
+-- what is decided, as a test
+abbrev pub is_so : {A : Type 0} → A ⊎ (A → ⊥) → Bool
+is_so (inl a) = true
+is_so (inr n) = false
+
+pub so_from : {A : Type 0} (d : A ⊎ (A → ⊥)) → is_so d ≡ true → A
+so_from (inl a) e = a
+so_from (inr n) e = cc
+
+pub so_to : {A : Type 0} (d : A ⊎ (A → ⊥)) → A → is_so d ≡ true
+so_to (inl a) h = refl
+so_to (inr n) h = absurd (n h)
+
+pub not_so : {A : Type 0} (d : A ⊎ (A → ⊥)) → (A → ⊥) → is_so d ≡ false
+not_so (inl a) n = absurd (n a)
+not_so (inr m) n = refl
+
+-- a test is true or is not
+pub test_or_not : (b c : Bool) → (b ≡ c) ⊎ (b ≡ c → ⊥)
+test_or_not true true = inl refl
+test_or_not true false = inr (λ e. cc)
+test_or_not false true = inr (λ e. cc)
+test_or_not false false = inl refl
+
+-- what says the same is decided too
+pub same_decided : {A B : Type 0} → (A → B) → (B → A) → A ⊎ (A → ⊥) → B ⊎ (B → ⊥)
+same_decided f g (inl a) = inl (f a)
+same_decided f g (inr n) = inr (λ b. n (g b))
+
+-- two facts together, and one of two
+pub both_or_not : {A B : Type 0} → A ⊎ (A → ⊥) → B ⊎ (B → ⊥) → (A × B) ⊎ ((A × B) → ⊥)
+both_or_not (inl a) (inl b) = inl (a, b)
+both_or_not (inl a) (inr n) = inr (λ h. n h.1)
+both_or_not (inr n) d = inr (λ h. n h.0)
+
+pub either_or_not : {A B : Type 0} → A ⊎ (A → ⊥) → B ⊎ (B → ⊥) → (A ⊎ B) ⊎ ((A ⊎ B) → ⊥)
+either_or_not (inl a) d = inl (inl a)
+either_or_not (inr n) (inl b) = inl (inr b)
+either_or_not (inr n) (inr m) = inr (λ h. ⊎_elim n m h)
+
+-- all elements have the property or not all
+pub all_or_not : {X : Type 0} (P : X → Type 0) → ((x : X) → P x ⊎ (P x → ⊥)) → (xs : List X) → AllByRecursion P xs ⊎ (AllByRecursion P xs → ⊥)
+all_or_not P decide xs = ⊎_elim inl (λ w. inr (λ all. w.2 (all_in P xs w.0 all w.1))) (all_or_one P decide xs)
+
+-- the same, element by element
+pub each_or_not : {X : Type 0} (P : X → Type 0) → ((x : X) → P x ⊎ (P x → ⊥)) → (xs : List X) → ((x : X) → In xs x → P x) ⊎ (((x : X) → In xs x → P x) → ⊥)
+each_or_not P decide xs = same_decided (λ all x h. all_in P xs x all h) (λ f. all_from P xs f) (all_or_not P decide xs)
+
+-- the elements of which it holds
+pub picked : {X : Type 0} (P : X → Type 0) → ((x : X) → P x ⊎ (P x → ⊥)) → (xs : List X) → (ys : List X) × ((x : X) → In ys x ↔ (In xs x × P x))
+picked P decide xs = (
+  filter (λ x. is_so (decide x)) xs,
+  λ x. (
+    (λ h. let w = filtered (λ x. is_so (decide x)) xs x h in (w.0, so_from (decide x) w.1)),
+    (λ h. in_filtered (λ x. is_so (decide x)) xs x h.0 (so_to (decide x) h.1)),
+  ),
+)

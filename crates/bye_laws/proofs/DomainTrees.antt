@@ -58,12 +58,12 @@ class_first w examples v seen =
     )
 
 -- two names are the same or are not
-same_or_not : (x y : Name) → (x ≡ y) ⊎ (x ≡ y → ⊥)
+pub same_or_not : (x y : Name) → (x ≡ y) ⊎ (x ≡ y → ⊥)
 same_or_not x y =
     ⊎_elim (λ e. inl ((bytes_eq-Decides x y).0 e)) (λ e. inr (λ h. not_both _ ((bytes_eq-Decides x y).1 h) e)) (bool_cases (bytes_eq x y))
 
 -- a variable is the first of its class or is not
-first_or_not : (w : Wanted) → AreExamples w → (x : Name) → IsFirstOfClass w x ⊎ (IsFirstOfClass w x → ⊥)
+pub first_or_not : (w : Wanted) → AreExamples w → (x : Name) → IsFirstOfClass w x ⊎ (IsFirstOfClass w x → ⊥)
 first_or_not w examples x =
     ⊎_elim
     (λ seen. let r = class_first w examples x seen in

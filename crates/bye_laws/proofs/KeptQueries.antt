@@ -24,6 +24,7 @@ use Rattle.bye_pattern.specs.TrialOrder.{IsInStrictOrder, trial_cmp}
 use Rattle.bye_pattern.proofs.Orders.{trial_weak}
 use Rattle.bye_laws.specs.Completeness.{Allows, AreExamples}
 use Rattle.bye_laws.specs.Parts.{WithinTree}
+use Rattle.bye_laws.specs.Ordering.{IsSorted}
 use Rattle.bye_laws.proofs.AnyRight.{passes_keep_right}
 use Rattle.bye_laws.proofs.Examples.{one_seen_list}
 use Rattle.bye_laws.proofs.Once.{once_tree, some_tree}
@@ -33,12 +34,7 @@ use Rattle.bye_laws.proofs.OptionalStarts.{optional_parts}
 use Rattle.bye_laws.proofs.Passes.{thin_tree}
 use Rattle.bye_pattern.specs.declared.cond.Cond.TheVariants as conds
 
--- a list in which each element stands before all later ones
-abbrev pub IsSorted : {X : Type 0} → (X → X → Type 0) → List X → Type 0
-IsSorted R [] = Unit {0}
-IsSorted {X} R (x ∷ xs) = AllByRecursion (R x) xs × IsSorted R xs
-
--- is told by its elements
+-- a sorted list is told by its elements
 pub sorted_same : {X : Type 0} (R : X → X → Type 0) → ((x y : X) → R x y → R y x → ⊥) → (xs ys : List X) → IsSorted R xs → IsSorted R ys → ((x : X) → In xs x ↔ In ys x) → xs ≡ ys
 sorted_same R apart [] [] a b same = refl
 sorted_same R apart [] (y ∷ ys) a b same = absurd ((same y).1 (inl refl))
@@ -63,16 +59,16 @@ sorted_same {X} R apart (x ∷ xs) (y ∷ ys) a b same =
     )
 
 -- the order of trial of patterns, and that of conditions
-tried_strictly : (ps : List Pattern) → IsInStrictOrder ps → IsSorted (λ p q. is_lt (trial_cmp p q) ≡ true) ps
+pub tried_strictly : (ps : List Pattern) → IsInStrictOrder ps → IsSorted (λ p q. is_lt (trial_cmp p q) ≡ true) ps
 tried_strictly [] h = tt
 tried_strictly (p ∷ ps) h = (h.0, tried_strictly ps h.1)
 
 -- of two patterns not both stand before the other
-patterns_apart : (p q : Pattern) → is_lt (trial_cmp p q) ≡ true → is_lt (trial_cmp q p) ≡ true → ⊥
+pub patterns_apart : (p q : Pattern) → is_lt (trial_cmp p q) ≡ true → is_lt (trial_cmp q p) ≡ true → ⊥
 patterns_apart p q a b = not_both _ b (trial_weak.one_way p q a)
 
 -- the same of conditions
-tried_in_order : (header : List Name) (cs : List Cond) → AreInTrialOrder header cs → IsSorted (IsTriedBefore header) cs
+pub tried_in_order : (header : List Name) (cs : List Cond) → AreInTrialOrder header cs → IsSorted (IsTriedBefore header) cs
 tried_in_order header [] h = tt
 tried_in_order header (c ∷ cs) h = (h.0, tried_in_order header cs h.1)
 
@@ -89,7 +85,7 @@ kinds_apart kinds.Literal kinds.Blank a b = a
 kinds_apart kinds.Literal kinds.Literal a b = a
 
 -- of two conditions not both stand before the other
-conditions_apart : (header : List Name) → EachOnce header → (c d : Cond) → IsTriedBefore header c d → IsTriedBefore header d c → ⊥
+pub conditions_apart : (header : List Name) → EachOnce header → (c d : Cond) → IsTriedBefore header c d → IsTriedBefore header d c → ⊥
 conditions_apart header once (conds.Bound v) (conds.Bound w) a b = not_both_before header v w once a b
 conditions_apart header once (conds.Bound v) (conds.SameVar w x) a b = b
 conditions_apart header once (conds.Bound v) (conds.SameConst w t) a b = b

@@ -36,3 +36,11 @@ pub mod Served
 pub mod AnyRight
 pub mod KeptQueries
 pub mod BothClasses
+pub mod PatternLines
+pub mod SortedLists
+pub mod DomainNodes
+pub mod DomainParts
+pub mod DomainDepths
+pub mod StrongestThere
+pub mod StrongestAt
+pub mod StartsThere

@@ -7,3 +7,7 @@ pub mod LocalPass
 pub mod QueryDomains
 pub mod Settling
 pub mod Serving
+pub mod Ordering
+pub mod DomainNodes
+pub mod Strongest
+pub mod Beginning

@@ -10,6 +10,10 @@ ghost use Rattle.bye_laws.specs.LocalPass.{LocalPassKeeps};
 ghost use Rattle.bye_laws.specs.QueryDomains.{QueriesAreOverDomains};
 ghost use Rattle.bye_laws.specs.Settling.{PassesAreLocal, Settling};
 ghost use Rattle.bye_laws.specs.Serving.{LocalQuestions};
+ghost use Rattle.bye_laws.specs.Ordering.{OnePattern, SortedListsAreOneAndThere};
+ghost use Rattle.bye_laws.specs.DomainNodes.{DomainNodesAreTold, DomainTreesByDepth};
+ghost use Rattle.bye_laws.specs.Strongest.{StrongestNodes};
+ghost use Rattle.bye_laws.specs.Beginning.{StartsAreThereAndOne};
 
 /// A row of a well-designed tree is told by the nodes that it reaches (SPARQL 1.1 Query, section 18.5).
 pub fn rows_by_reaching()
@@ -95,4 +99,34 @@ pub fn settling()
 /// For any query that is right, the pass that asks at each node alone is the pass over the whole query.
 pub fn passes_are_local()
     ensures { PassesAreLocal }
+{}
+
+/// Valid patterns are told by their written lines, and of two different ones exactly one is tried before the other.
+pub fn one_pattern()
+    ensures { OnePattern }
+{}
+
+/// Valid patterns have one list in strict order, and conditions over a header one list in the order of trial.
+pub fn sorted_lists_are_one_and_there()
+    ensures { SortedListsAreOneAndThere }
+{}
+
+/// The variables of each node of a tree of domains, the numbers of its rows, and the nodes above it.
+pub fn domain_nodes_are_told()
+    ensures { DomainNodesAreTold }
+{}
+
+/// A tree of domains is the one that is made from its labels, each node from those right below it.
+pub fn domain_trees_by_depth()
+    ensures { DomainTreesByDepth }
+{}
+
+/// The strongest node over some variables and rows is there and one, and over those of a domain it is the start's.
+pub fn strongest_nodes()
+    ensures { StrongestNodes }
+{}
+
+/// Each class has one start, exactly where no claim shows about which rows bind which variables.
+pub fn starts_are_there_and_one()
+    ensures { StartsAreThereAndOne }
 {}
