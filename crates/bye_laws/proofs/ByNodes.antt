@@ -6,6 +6,7 @@ use Rattle.bye_terms.specs.Terms.{Statement}
 use Rattle.bye_terms.proofs.Members.{all_from, all_in, in_cases, in_left, in_right}
 use Rattle.bye_pattern.specs.declared.cond.Cond.{Cond}
 use Rattle.bye_pattern.specs.Algebra.{IsAnswer}
+use Rattle.bye_pattern.specs.Conditions.{AllHoldExpr}
 use Rattle.bye_pattern.specs.Conjuncts.{MeetsCond}
 use Rattle.bye_pattern.specs.Designed.{IsForest, IsTree}
 use Rattle.bye_table.specs.Domains.{AreAlike, IsSeen, IsWithin}
@@ -52,14 +53,14 @@ order_at rows q class p u r t x y a b nx ny = class.order r t p u y x b a ny nx
 -- an answer is what is reached
 pub answer_reached : (g : List Statement) (q : Select) (rows : List Mapping) (m : Mapping) → InOptional rows q → Answers g q m → Reached g q.tree m × AllByRecursion (MeetsCond m) (own_conds q.tree)
 answer_reached g q rows m class (n, row, e) =
-    let r = row_reached g q n class.outer (once_designed rows q class) row in
+    let r = row_reached g q n (once_designed rows q class) row in
     let same = restrict_within q.vars n (λ v h. (class.selects v).1 (reached_in n q.tree v (r.0.binds v h))) in
-    subst (λ m. Reached g q.tree m × AllByRecursion (MeetsCond m) (own_conds q.tree)) (sym (e ∙ sym same)) r
+    subst (λ m. Reached g q.tree m × AllByRecursion (MeetsCond m) (own_conds q.tree)) (sym (e ∙ sym same)) (r.0, r.1)
 
 -- and what is reached is an answer
 pub reached_answer : (g : List Statement) (q : Select) (rows : List Mapping) (m : Mapping) → InOptional rows q → Reached g q.tree m → AllByRecursion (MeetsCond m) (own_conds q.tree) → Answers g q m
 reached_answer g q rows m class r conds =
-    (m, reached_row g q m class.outer (once_designed rows q class) r conds, restrict_within q.vars m (λ v h. (class.selects v).1 (reached_in m q.tree v (r.binds v h))))
+    (m, reached_row g q m (once_designed rows q class) r conds (subst (λ es. AllHoldExpr es m) (sym class.outer) tt), restrict_within q.vars m (λ v h. (class.selects v).1 (reached_in m q.tree v (r.binds v h))))
 
 -- places
 pub self_node : (p : List Name) (t : Tree) → IsNode p t p t
