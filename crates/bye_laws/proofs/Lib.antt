@@ -2,6 +2,7 @@ pub mod Telling
 pub mod Withins
 pub mod Reached
 pub mod ReachedNodes
+pub mod Descending
 pub mod Passes
 pub mod Once
 pub mod Examples

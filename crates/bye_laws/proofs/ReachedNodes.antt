@@ -1,5 +1,5 @@
 -- The rows of a well-designed tree, node by node.
-use Rattle.std.proofs.Common.{◌≡◌, refl, List, [], ◌∷◌, ◌++◌, map, ◌⊎◌, inl, inr, ⊎_elim, sym, subst}
+use Rattle.std.proofs.Common.{refl, List, [], ◌∷◌, map, ◌⊎◌, inl, inr, ⊎_elim, sym, subst}
 use Rattle.std.specs.List.{AllByRecursion}
 use Rattle.bye_terms.specs.Members.{In}
 use Rattle.bye_terms.specs.Terms.{Statement}

@@ -1,4 +1,5 @@
 pub mod Reaching
+pub mod Descending
 pub mod Nodes
 pub mod Completeness
 pub mod Passing

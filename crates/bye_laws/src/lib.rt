@@ -3,6 +3,7 @@
 #![tactic(auto)]
 
 ghost use Rattle.bye_laws.specs.Reaching.{RowsByReaching};
+ghost use Rattle.bye_laws.specs.Descending.{RowsByDescending};
 ghost use Rattle.bye_laws.specs.Nodes.{AnswersByNode};
 ghost use Rattle.bye_laws.specs.Completeness.{StartsFitIfAny, NoneFitsAsTheStart, CertificatesAreSound, CertificatesAreEnough, DomainTreesByClaims, StartsByCovering};
 ghost use Rattle.bye_laws.specs.Passing.{KeptIsOne, SomethingIsKept, KeptIsMinimal};
@@ -11,6 +12,11 @@ ghost use Rattle.bye_laws.specs.LocalPass.{LocalPassKeeps, LocalQuestions};
 /// A row of a well-designed tree is told by the nodes that it reaches (SPARQL 1.1 Query, section 18.5).
 pub fn rows_by_reaching()
     ensures { RowsByReaching }
+{}
+
+/// The rows of a well-designed tree are what going down its nodes from a mapping gives.
+pub fn rows_by_descending()
+    ensures { RowsByDescending }
 {}
 
 /// The wanted rows are answers of a query of the class with OPTIONAL groups exactly where each says of each node
