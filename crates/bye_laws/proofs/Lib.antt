@@ -3,6 +3,8 @@ pub mod Withins
 pub mod Reached
 pub mod ReachedNodes
 pub mod Descending
+pub mod Values
+pub mod Restricting
 pub mod Passes
 pub mod Once
 pub mod Examples

@@ -1,5 +1,7 @@
 pub mod Reaching
 pub mod Descending
+pub mod Values
+pub mod Restricting
 pub mod Nodes
 pub mod Completeness
 pub mod Passing
