@@ -1,4 +1,4 @@
--- The wanted rows are answers of a query of the class with OPTIONAL groups exactly where each says of each node what it should.
+-- A wanted row is an answer of a query of the class with OPTIONAL groups exactly where it says of each node what it should.
 use Rattle.std.proofs.Common.{◌≡◌, refl, List, [], ◌++◌, ◌⊎◌, inl, inr, ⊎_elim, sym, ◌∙◌, subst, ◌↔◌}
 use Rattle.std.specs.List.{AllByRecursion}
 use Rattle.bye_terms.specs.Members.{In}
@@ -253,9 +253,13 @@ by_node_answer g q rows m class row by =
       below = below_from g q.tree m by [] q.tree (λ r u k. k) (λ v h. all v h.0) all;
     }) met.1
 
--- the two together, for all rows
+-- the two together
+pub by_node : (g : List Statement) (q : Select) (rows : List Mapping) (m : Mapping) → InOptional rows q → In rows m → Answers g q m ↔ ByNode g q.tree m
+by_node g q rows m class row = (answer_by_node g q rows m class row, by_node_answer g q rows m class row)
+
+-- and for all rows
 pub by_nodes : (g : List Statement) (q : Select) (rows : List Mapping) → InOptional rows q → AllByRecursion (Answers g q) rows ↔ AllByRecursion (ByNode g q.tree) rows
 by_nodes g q rows class = (
-  λ h. all_from (ByNode g q.tree) rows (λ m k. answer_by_node g q rows m class k (all_in (Answers g q) rows m h k)),
-  λ h. all_from (Answers g q) rows (λ m k. by_node_answer g q rows m class k (all_in (ByNode g q.tree) rows m h k)),
+  λ h. all_from (ByNode g q.tree) rows (λ m k. (by_node g q rows m class k).0 (all_in (Answers g q) rows m h k)),
+  λ h. all_from (Answers g q) rows (λ m k. (by_node g q rows m class k).1 (all_in (ByNode g q.tree) rows m h k)),
 )

@@ -36,8 +36,7 @@ pub fn answers_are_restricted_rows()
     ensures { AnswersAreRestrictedRows }
 {}
 
-/// The wanted rows are answers of a query of the class with OPTIONAL groups exactly where each says of each node
-/// what it should.
+/// A wanted row is an answer of a query of the class with OPTIONAL groups exactly where it says of each node what it should.
 pub fn answers_by_node()
     ensures { AnswersByNode }
 {}
