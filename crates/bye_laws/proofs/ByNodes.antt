@@ -1,4 +1,4 @@
--- The wanted rows are answers of a query of the class with OPTIONAL groups exactly where each says of each node what it should.
+-- A wanted row is an answer of a query of the class with OPTIONAL groups exactly where it says of each node what it should.
 use Rattle.bye_pattern.specs.declared.level.Level.{Level}
 use Rattle.std.proofs.Common.{◌≡◌, refl, List, [], ◌++◌, ◌⊎◌, inl, inr, ⊎_elim, sym, ◌∙◌, subst, ◌↔◌}
 use Rattle.std.specs.List.{AllByRecursion}
@@ -7,6 +7,7 @@ use Rattle.bye_terms.specs.Terms.{Statement}
 use Rattle.bye_terms.proofs.Members.{all_from, all_in, in_cases, in_left, in_right}
 use Rattle.bye_pattern.specs.declared.cond.Cond.{Cond}
 use Rattle.bye_pattern.specs.Algebra.{IsAnswer}
+use Rattle.bye_pattern.specs.Conditions.{AllHoldExpr}
 use Rattle.bye_pattern.specs.Conjuncts.{MeetsCond}
 use Rattle.bye_pattern.specs.Designed.{IsForest, IsTree}
 use Rattle.bye_table.specs.Domains.{AreAlike, IsSeen, IsWithin}
@@ -53,14 +54,14 @@ order_at level rows q class p u r t x y a b nx ny = class.order r t p u y x b a 
 -- an answer is what is reached
 pub answer_reached : (level : Level) → (g : List Statement) (q : Select) (rows : List Mapping) (m : Mapping) → InOptional level rows q → Answers g q m → Reached g q.tree m × AllByRecursion (MeetsCond m) (own_conds q.tree)
 answer_reached level g q rows m class (n, row, e) =
-    let r = row_reached g q n class.outer (once_designed level rows q class) row in
+    let r = row_reached g q n (once_designed level rows q class) row in
     let same = restrict_within q.vars n (λ v h. (class.selects v).1 (reached_in n q.tree v (r.0.binds v h))) in
-    subst (λ m. Reached g q.tree m × AllByRecursion (MeetsCond m) (own_conds q.tree)) (sym (e ∙ sym same)) r
+    subst (λ m. Reached g q.tree m × AllByRecursion (MeetsCond m) (own_conds q.tree)) (sym (e ∙ sym same)) (r.0, r.1)
 
 -- and what is reached is an answer
 pub reached_answer : (level : Level) → (g : List Statement) (q : Select) (rows : List Mapping) (m : Mapping) → InOptional level rows q → Reached g q.tree m → AllByRecursion (MeetsCond m) (own_conds q.tree) → Answers g q m
 reached_answer level g q rows m class r conds =
-    (m, reached_row g q m class.outer (once_designed level rows q class) r conds, restrict_within q.vars m (λ v h. (class.selects v).1 (reached_in m q.tree v (r.binds v h))))
+    (m, reached_row g q m (once_designed level rows q class) r conds (subst (λ es. AllHoldExpr es m) (sym class.outer) tt), restrict_within q.vars m (λ v h. (class.selects v).1 (reached_in m q.tree v (r.binds v h))))
 
 -- places
 pub self_node : (p : List Name) (t : Tree) → IsNode p t p t
@@ -253,9 +254,13 @@ by_node_answer level g q rows m class row by =
       below = below_from g q.tree m by [] q.tree (λ r u k. k) (λ v h. all v h.0) all;
     }) met.1
 
--- the two together, for all rows
+-- the two together
+pub by_node : (level : Level) → (g : List Statement) (q : Select) (rows : List Mapping) (m : Mapping) → InOptional level rows q → In rows m → Answers g q m ↔ ByNode g q.tree m
+by_node level g q rows m class row = (answer_by_node level g q rows m class row, by_node_answer level g q rows m class row)
+
+-- and for all rows
 pub by_nodes : (level : Level) → (g : List Statement) (q : Select) (rows : List Mapping) → InOptional level rows q → AllByRecursion (Answers g q) rows ↔ AllByRecursion (ByNode g q.tree) rows
 by_nodes level g q rows class = (
-  λ h. all_from (ByNode g q.tree) rows (λ m k. answer_by_node level g q rows m class k (all_in (Answers g q) rows m h k)),
-  λ h. all_from (Answers g q) rows (λ m k. by_node_answer level g q rows m class k (all_in (ByNode g q.tree) rows m h k)),
+  λ h. all_from (ByNode g q.tree) rows (λ m k. (by_node level g q rows m class k).0 (all_in (Answers g q) rows m h k)),
+  λ h. all_from (Answers g q) rows (λ m k. (by_node level g q rows m class k).1 (all_in (ByNode g q.tree) rows m h k)),
 )

@@ -2,6 +2,9 @@ pub mod Telling
 pub mod Withins
 pub mod Reached
 pub mod ReachedNodes
+pub mod Descending
+pub mod Values
+pub mod Restricting
 pub mod Passes
 pub mod Examples
 pub mod CommonConditions

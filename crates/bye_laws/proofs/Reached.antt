@@ -124,7 +124,7 @@ mutual
       (λ h. let w = shared_forest (all_vars ps) (seen ++ all_vars ps) f d.1 v h (in_left _ _ v s) in (d.0.shared v w s, w))
       (in_cases (all_vars ps) _ v h)
 
-  shared_forest : (parent seen : List Name) (f : Forest) → IsForest parent seen f → (v : Name) → In (forest_vars f) v → In seen v → In parent v
+  pub shared_forest : (parent seen : List Name) (f : Forest) → IsForest parent seen f → (v : Name) → In (forest_vars f) v → In seen v → In parent v
   shared_forest parent seen leaf d v h s = absurd h
   shared_forest parent seen (more t f) d v h s =
       ⊎_elim (λ h. (shared_tree parent seen t d.0 v h s).0) (λ h. shared_forest parent (seen ++ tree_vars t) f d.1 v h (in_left _ _ v s)) (in_cases (tree_vars t) _ v h)
@@ -135,7 +135,7 @@ mutual
   reached_in m (node ps cs f) v (inl h) = in_left _ _ v h
   reached_in m (node ps cs f) v (inr h) = in_right (all_vars ps) _ v (reached_in_forest m f v h)
 
-  reached_in_forest : (m : Mapping) (f : Forest) (v : Name) → InReachedForest m f v → In (forest_vars f) v
+  pub reached_in_forest : (m : Mapping) (f : Forest) (v : Name) → InReachedForest m f v → In (forest_vars f) v
   reached_in_forest m leaf v h = absurd h
   reached_in_forest m (more t f) v (inl h) = in_left _ _ v (reached_in m t v h.1)
   reached_in_forest m (more t f) v (inr h) = in_right (tree_vars t) _ v (reached_in_forest m f v h)
@@ -146,7 +146,7 @@ mutual
   reached_same m n (node ps cs f) v same (inl h) = inl h
   reached_same m n (node ps cs f) v same (inr h) = inr (reached_same_forest m n f v (λ v h. same v (in_right (all_vars ps) _ v h)) h)
 
-  reached_same_forest : (m n : Mapping) (f : Forest) (v : Name) → ((v : Name) → In (forest_vars f) v → m v ≡ n v) → InReachedForest m f v → InReachedForest n f v
+  pub reached_same_forest : (m n : Mapping) (f : Forest) (v : Name) → ((v : Name) → In (forest_vars f) v → m v ≡ n v) → InReachedForest m f v → InReachedForest n f v
   reached_same_forest m n leaf v same h = absurd h
   reached_same_forest m n (more t f) v same (inl h) =
       inl ((λ v k. subst (λ o. IsSome o) (same v (in_left _ _ v (own_in t v k))) (h.0 v k)), reached_same m n t v (λ v k. same v (in_left _ _ v k)) h.1)

@@ -1,20 +1,20 @@
 -- The rows of a well-designed tree, node by node.
-use Rattle.std.proofs.Common.{◌≡◌, refl, List, [], ◌∷◌, ◌++◌, map, ◌⊎◌, inl, inr, ⊎_elim, sym, subst}
+use Rattle.std.proofs.Common.{refl, List, [], ◌∷◌, map, ◌⊎◌, inl, inr, ⊎_elim, sym, subst}
 use Rattle.std.specs.List.{AllByRecursion}
 use Rattle.bye_terms.specs.Members.{In}
 use Rattle.bye_terms.specs.Terms.{Statement}
+use Rattle.bye_terms.proofs.Lists.{all_join, all_parts}
 use Rattle.bye_pattern.specs.Algebra.{IsRow}
-use Rattle.bye_pattern.specs.Conditions.{AllHoldExpr, cond_expr}
+use Rattle.bye_pattern.specs.Conditions.{AllHoldExpr, HoldsExpr, cond_expr}
 use Rattle.bye_pattern.specs.Conjuncts.{MeetsCond}
 use Rattle.bye_pattern.specs.Designed.{IsTree, IsWellDesigned}
 use Rattle.bye_table.specs.Mappings.{Binds, Mapping, Name}
 use Rattle.bye_pattern.specs.Trees.{Forest, Select, Tree, alg, leaf, more, node, own_conds, own_vars}
 use Rattle.bye_pattern.proofs.FourRules.{at_once}
 use Rattle.bye_table.proofs.Merging.{not_bound, some_or_none}
-use Rattle.bye_pattern.proofs.OneGroup.{conds_hold, hold_conds}
 use Rattle.bye_laws.specs.Reaching.{BindsAll, IsChild, IsReached, IsReachedIn, MeetsNode, NoValues, Reaches, children}
 use Rattle.bye_laws.proofs.Reached.{BelowForest, BelowTree, InReached, InReachedForest, Reached, complete_tree, sound_tree}
-use Rattle.bye_laws.proofs.Telling.{all_hold, all_meet}
+use Rattle.bye_laws.proofs.Telling.{all_hold_expr, all_meet_expr}
 
 -- the root is reached
 pub self_reached : (m : Mapping) (t : Tree) → IsReached m t t
@@ -131,24 +131,24 @@ from_nodes g t m r = record {
 }
 
 -- the root's filter, beside the rows of its body
-pub row_reached : (g : List Statement) (q : Select) (m : Mapping) → q.outer ≡ [] → IsTree [] [] q.tree → IsRow g (alg q) m → Reached g q.tree m × AllByRecursion (MeetsCond m) (own_conds q.tree)
-row_reached g q m none designed row =
-    let hold = subst (λ es. AllHoldExpr (map cond_expr (own_conds q.tree) ++ es) m) none row.1 in
-    (sound_tree g [] [] q.tree designed m row.0, all_meet m (own_conds q.tree) (conds_hold (own_conds q.tree) m hold))
+pub row_reached : (g : List Statement) (q : Select) (m : Mapping) → IsTree [] [] q.tree → IsRow g (alg q) m
+    → Reached g q.tree m × AllByRecursion (MeetsCond m) (own_conds q.tree) × AllHoldExpr q.outer m
+row_reached g q m designed row =
+    let parts = all_parts (HoldsExpr m) (map cond_expr (own_conds q.tree)) q.outer row.1 in
+    (sound_tree g [] [] q.tree designed m row.0, all_meet_expr m (own_conds q.tree) parts.0, parts.1)
 
 -- and back
-pub reached_row : (g : List Statement) (q : Select) (m : Mapping) → q.outer ≡ [] → IsTree [] [] q.tree → Reached g q.tree m → AllByRecursion (MeetsCond m) (own_conds q.tree) → IsRow g (alg q) m
-reached_row g q m none designed r conds = (
-  complete_tree g [] [] q.tree designed m r,
-  subst (λ es. AllHoldExpr (map cond_expr (own_conds q.tree) ++ es) m) (sym none) (hold_conds (own_conds q.tree) m (all_hold m (own_conds q.tree) conds)),
-)
+pub reached_row : (g : List Statement) (q : Select) (m : Mapping) → IsTree [] [] q.tree → Reached g q.tree m → AllByRecursion (MeetsCond m) (own_conds q.tree) → AllHoldExpr q.outer m
+    → IsRow g (alg q) m
+reached_row g q m designed r conds outer =
+    (complete_tree g [] [] q.tree designed m r, all_join (HoldsExpr m) (map cond_expr (own_conds q.tree)) q.outer (all_hold_expr m (own_conds q.tree) conds) outer)
 
 -- a row, node by node
-pub row_reaches : (g : List Statement) (q : Select) (m : Mapping) → q.outer ≡ [] → IsWellDesigned q.tree → IsRow g (alg q) m → Reaches g q.tree m
-row_reaches g q m none designed row =
-    let r = row_reached g q m none ((at_once q.tree).0 designed) row in of_reached g q.tree m r.0 r.1
+pub row_reaches : (g : List Statement) (q : Select) (m : Mapping) → IsWellDesigned q.tree → IsRow g (alg q) m → Reaches g q.tree m × AllHoldExpr q.outer m
+row_reaches g q m designed row =
+    let r = row_reached g q m ((at_once q.tree).0 designed) row in (of_reached g q.tree m r.0 r.1, r.2)
 
 -- and back
-pub reaches_row : (g : List Statement) (q : Select) (m : Mapping) → q.outer ≡ [] → IsWellDesigned q.tree → Reaches g q.tree m → IsRow g (alg q) m
-reaches_row g q m none designed r =
-    reached_row g q m none ((at_once q.tree).0 designed) (from_nodes g q.tree m r) (r.meets q.tree (self_reached m q.tree)).1
+pub reaches_row : (g : List Statement) (q : Select) (m : Mapping) → IsWellDesigned q.tree → Reaches g q.tree m → AllHoldExpr q.outer m → IsRow g (alg q) m
+reaches_row g q m designed r outer =
+    reached_row g q m ((at_once q.tree).0 designed) (from_nodes g q.tree m r) (r.meets q.tree (self_reached m q.tree)).1 outer

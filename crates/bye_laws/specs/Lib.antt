@@ -1,4 +1,7 @@
 pub mod Reaching
+pub mod Descending
+pub mod Values
+pub mod Restricting
 pub mod Parts
 pub mod Nodes
 pub mod Completeness

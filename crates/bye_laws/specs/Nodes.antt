@@ -1,7 +1,7 @@
 -- What a wanted row says of each node of a query of the class with OPTIONAL groups.
 use Rattle.bye_pattern.specs.declared.level.Level.{Level}
 use Rattle.std.specs.Prelude.{List, [], ◌↔◌}
-use Rattle.std.specs.List.{AllByRecursion}
+use Rattle.bye_terms.specs.Members.{In}
 use Rattle.bye_terms.specs.Terms.{Statement}
 use Rattle.bye_pattern.specs.Algebra.{IsAnswer}
 use Rattle.bye_table.specs.Mappings.{Binds, Mapping, Name}
@@ -19,7 +19,6 @@ pub record ByNode (g : List Statement) (root : Tree) (m : Mapping) : Type 0 wher
   -- where it does not, and binds those of the node's parent, there are no values for them
   pub none : (p : List Name) (u c : Tree) → IsNode [] root p u → IsChild (children u) c → BindsNew m p u → (BindsNew m (own_vars u) c → ⊥) → NoValues g m c
 
--- every wanted row is an answer exactly where each says this of each node
+-- each wanted row is an answer exactly where it says this of each node
 abbrev pub AnswersByNode : Type 0
-AnswersByNode = (level : Level) (g : List Statement) (q : Select) (rows : List Mapping) → InOptional level rows q
-    → AllByRecursion (IsAnswer g q.vars (alg q)) rows ↔ AllByRecursion (ByNode g q.tree) rows
+AnswersByNode = (level : Level) (g : List Statement) (q : Select) (rows : List Mapping) (m : Mapping) → InOptional level rows q → In rows m → IsAnswer g q.vars (alg q) m ↔ ByNode g q.tree m

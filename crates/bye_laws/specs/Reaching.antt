@@ -1,9 +1,10 @@
 -- What a mapping says of the nodes of a tree, and the rows of a tree's algebra by the nodes that they reach.
-use Rattle.std.specs.Prelude.{◌≡◌, List, [], ◌⊎◌, ◌↔◌}
+use Rattle.std.specs.Prelude.{◌≡◌, List, ◌⊎◌, ◌↔◌}
 use Rattle.std.specs.List.{AllByRecursion}
 use Rattle.bye_terms.specs.Members.{In}
 use Rattle.bye_terms.specs.Terms.{Statement}
 use Rattle.bye_pattern.specs.Algebra.{IsRow}
+use Rattle.bye_pattern.specs.Conditions.{AllHoldExpr}
 use Rattle.bye_pattern.specs.Conjuncts.{MeetsCond}
 use Rattle.bye_pattern.specs.Designed.{IsWellDesigned}
 use Rattle.bye_table.specs.Mappings.{Binds, Compatible, Mapping, Name, merge}
@@ -48,6 +49,6 @@ pub record Reaches (g : List Statement) (t : Tree) (m : Mapping) : Type 0 where
   -- a child of a reached node that is not reached itself has no values
   pub none : (u c : Tree) → IsReached m t u → IsChild (children u) c → (BindsAll m c → ⊥) → NoValues g m c
 
--- a mapping is a row of a well-designed tree exactly where this holds
+-- a mapping is a row of a well-designed tree exactly where this holds, and the further expressions of the root hold on it
 abbrev pub RowsByReaching : Type 0
-RowsByReaching = (g : List Statement) (q : Select) (m : Mapping) → q.outer ≡ [] → IsWellDesigned q.tree → IsRow g (alg q) m ↔ Reaches g q.tree m
+RowsByReaching = (g : List Statement) (q : Select) (m : Mapping) → IsWellDesigned q.tree → IsRow g (alg q) m ↔ (Reaches g q.tree m × AllHoldExpr q.outer m)

@@ -3,6 +3,9 @@
 #![tactic(auto)]
 
 ghost use Rattle.bye_laws.specs.Reaching.{RowsByReaching};
+ghost use Rattle.bye_laws.specs.Descending.{RowsByDescending};
+ghost use Rattle.bye_laws.specs.Values.{NoValuesByRows, StepsByValues};
+ghost use Rattle.bye_laws.specs.Restricting.{AnswersAreRestrictedRows};
 ghost use Rattle.bye_laws.specs.Nodes.{AnswersByNode};
 ghost use Rattle.bye_laws.specs.Completeness.{StartsFitIfAny, NoneFitsAsTheStart, CertificatesAreSound, CertificatesAreEnough, DomainTreesByClaims, StartsByCovering};
 ghost use Rattle.bye_laws.specs.Passing.{KeptIsOne, SomethingIsKept, KeptIsMinimal, PassesKeepRight};
@@ -20,8 +23,27 @@ pub fn rows_by_reaching()
     ensures { RowsByReaching }
 {}
 
-/// The wanted rows are answers of a query of the class with OPTIONAL groups exactly where each says of each node
-/// what it should.
+/// The rows of a well-designed tree are what going down its nodes from a mapping gives.
+pub fn rows_by_descending()
+    ensures { RowsByDescending }
+{}
+
+/// There are no values for a node beside a mapping exactly where no mapping of the variables that it leaves open there is such.
+pub fn no_values_by_rows()
+    ensures { NoValuesByRows }
+{}
+
+/// A step at a node is the merge of a mapping with values of the variables that it leaves open there.
+pub fn steps_by_values()
+    ensures { StepsByValues }
+{}
+
+/// An answer is what a row says of the selected variables; where all of the tree are selected, it is a row.
+pub fn answers_are_restricted_rows()
+    ensures { AnswersAreRestrictedRows }
+{}
+
+/// A wanted row is an answer of a query of the class with OPTIONAL groups exactly where it says of each node what it should.
 pub fn answers_by_node()
     ensures { AnswersByNode }
 {}

@@ -1,5 +1,5 @@
-use Rattle.bye_laws.proofs.ByNodes.{by_nodes}
+use Rattle.bye_laws.proofs.ByNodes.{by_node}
 use Rattle.bye_laws.proofs.answers_by_node.Goals as goal
 
 pub returns : goal.returns
-returns c = by_nodes
+returns c = by_node
