@@ -6,21 +6,11 @@ use Rattle.bye_terms.specs.declared.term.Term.{Term}
 use Rattle.bye_terms.specs.Members.{EachOnce, In}
 use Rattle.bye_terms.proofs.Tests.{bool_cases, not_both}
 use Rattle.bye_table.specs.Mappings.{Binds, Mapping, Name, NoRepeat, Pairs, row_mapping}
+use Rattle.bye_laws.specs.Claiming.{listing, with_value}
 use Rattle.bye_table.proofs.Merging.{binds, bound, not_bound, some_or_none, unbound}
 
--- a variable with its value, where it has one
-pair_of : Name → Option Term → Pairs → Pairs
-pair_of v None rest = rest
-pair_of v (Some t) rest = (v, t) ∷ rest
-
--- the values of these variables, in their order
-pub listing : List Name → Mapping → Pairs
-listing [] e = []
-listing (v ∷ vs) e = pair_of v (e v) (listing vs e)
-
 -- what a longer list tells
-from_pair : (v w : Name) (o : Option Term) (rest : Pairs) (t : Term) → row_mapping (pair_of v o rest) w ≡ Some t → ((v ≡ w) × (o ≡ Some t)) ⊎ (row_mapping rest w ≡ Some t)
-unfolding pair_of
+from_pair : (v w : Name) (o : Option Term) (rest : Pairs) (t : Term) → row_mapping (with_value v o rest) w ≡ Some t → ((v ≡ w) × (o ≡ Some t)) ⊎ (row_mapping rest w ≡ Some t)
 from_pair v w None rest t e = inr e
 from_pair v w (Some s) rest t e =
     ⊎_elim
@@ -29,8 +19,7 @@ from_pair v w (Some s) rest t e =
     (bool_cases (bytes_eq v w))
 
 -- what is told to a longer list
-to_pair : (v w : Name) (o : Option Term) (rest : Pairs) (t : Term) → (v ≡ w → o ≡ Some t) → (v ≡ w) ⊎ (row_mapping rest w ≡ Some t) → row_mapping (pair_of v o rest) w ≡ Some t
-unfolding pair_of
+to_pair : (v w : Name) (o : Option Term) (rest : Pairs) (t : Term) → (v ≡ w → o ≡ Some t) → (v ≡ w) ⊎ (row_mapping rest w ≡ Some t) → row_mapping (with_value v o rest) w ≡ Some t
 to_pair v w None rest t here h = ⊎_elim (λ e. let k = here e in cc) (λ k. k) h
 to_pair v w (Some s) rest t here h =
     ⊎_elim
@@ -40,31 +29,26 @@ to_pair v w (Some s) rest t here h =
 
 -- the list tells values of the mapping
 listed_from : (vs : List Name) (e : Mapping) (w : Name) (t : Term) → row_mapping (listing vs e) w ≡ Some t → e w ≡ Some t
-unfolding listing
 listed_from [] e w t h = cc
 listed_from (v ∷ vs) e w t h = ⊎_elim (λ k. ap e (sym k.0) ∙ k.1) (λ k. listed_from vs e w t k) (from_pair v w (e v) (listing vs e) t h)
 
 -- of these variables
 listed_in : (vs : List Name) (e : Mapping) (w : Name) (t : Term) → row_mapping (listing vs e) w ≡ Some t → In vs w
-unfolding listing
 listed_in [] e w t h = cc
 listed_in (v ∷ vs) e w t h = ⊎_elim (λ k. inl k.0) (λ k. inr (listed_in vs e w t k)) (from_pair v w (e v) (listing vs e) t h)
 
 -- and the values of the mapping
 listed_to : (vs : List Name) (e : Mapping) (w : Name) (t : Term) → In vs w → e w ≡ Some t → row_mapping (listing vs e) w ≡ Some t
-unfolding listing
 listed_to [] e w t h k = absurd h
 listed_to (v ∷ vs) e w t h k =
     to_pair v w (e v) (listing vs e) t (λ same. ap e same ∙ k) (⊎_elim (λ same. inl same) (λ i. inr (listed_to vs e w t i k)) h)
 
 -- of variables that are listed once it tells none twice
-pair_once : (v : Name) (o : Option Term) (rest : Pairs) → row_mapping rest v ≡ None → NoRepeat rest → NoRepeat (pair_of v o rest)
-unfolding pair_of
+pair_once : (v : Name) (o : Option Term) (rest : Pairs) → row_mapping rest v ≡ None → NoRepeat rest → NoRepeat (with_value v o rest)
 pair_once v None rest fresh once = once
 pair_once v (Some t) rest fresh once = (fresh, once)
 
 pub listed_once : (vs : List Name) (e : Mapping) → EachOnce vs → NoRepeat (listing vs e)
-unfolding listing
 listed_once [] e once = tt
 listed_once (v ∷ vs) e once =
     pair_once v (e v) (listing vs e)

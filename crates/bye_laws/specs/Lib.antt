@@ -14,3 +14,4 @@ pub mod Ordering
 pub mod DomainNodes
 pub mod Strongest
 pub mod Beginning
+pub mod Claiming
