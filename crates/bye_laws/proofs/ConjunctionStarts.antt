@@ -38,16 +38,16 @@ pub record HasOneDomain (rows : List Mapping) (x : Name) (vs : List Name) : Type
   pub once : EachOnce vs
 
 -- a variable to whose domain that of x belongs is one of them, and each of them is such a one
-up_in : (rows : List Mapping) (x : Name) (vs : List Name) → HasOneDomain rows x vs → (v : Name) → IsWithin rows x v → In vs v
+pub up_in : (rows : List Mapping) (x : Name) (vs : List Name) → HasOneDomain rows x vs → (v : Name) → IsWithin rows x v → In vs v
 up_in rows x vs one v up =
     ((all_in (Exactly vs) rows one.seen.0 one.exact one.seen.1) v).0 (within_row rows one.seen.0 x v one.seen.1 up one.seen.2)
 
 -- and each of them is such a one
-in_up : (rows : List Mapping) (x : Name) (vs : List Name) → HasOneDomain rows x vs → (v : Name) → In vs v → IsWithin rows x v
+pub in_up : (rows : List Mapping) (x : Name) (vs : List Name) → HasOneDomain rows x vs → (v : Name) → In vs v → IsWithin rows x v
 in_up rows x vs one v h = all_from (λ m. Binds m x → Binds m v) rows (λ m row b. ((all_in (Exactly vs) rows m one.exact row) v).1 h)
 
 -- the start is a group of the class where its triples cover the domain
-start_group : (level : Level) → (g : List Statement) (rows : List Mapping) (header : List Name) (x : Name) (vs : List Name) (ps : List Pattern) (cs : List Cond) → HasOneDomain rows x vs → AreAllAt level g rows header x ps cs
+pub start_group : (level : Level) → (g : List Statement) (rows : List Mapping) (header : List Name) (x : Name) (vs : List Name) (ps : List Pattern) (cs : List Cond) → HasOneDomain rows x vs → AreAllAt level g rows header x ps cs
     → ((v : Name) → In vs v → In (all_vars ps) v) → IsGroupFor level vs ps cs
 start_group level g rows header x vs ps cs one all cover = record {
   some = (x, cover x (up_in rows x vs one x (within_self rows x)));
@@ -107,17 +107,22 @@ start_right level g rows unwanted header x vs ps cs inside one all q class fits 
       );
     }
 
+-- where no variable is uncovered, the start covers the domain
+pub start_covers : (g : List Statement) (rows : List Mapping) (x : Name) (vs : List Name) (ps : List Pattern) → HasOneDomain rows x vs → ((p : Pattern) → In ps p ↔ IsCommonAt g rows x p)
+    → ((v : Name) → ShowsUncovered g rows v → ⊥) → (v : Name) → In vs v → In (all_vars ps) v
+start_covers g rows x vs ps one all covered v h =
+    let row_binds = ((all_in (Exactly vs) rows one.seen.0 one.exact one.seen.1) v).1 h in
+    ⊎_elim (λ k. k) (λ out. absurd (covered v (record {
+      seen = (one.seen.0, one.seen.1, row_binds);
+      none = λ p common k. out (all_vars_in ps p v ((all p).1 (lower g rows x v p (in_up rows x vs one v h) common)) k);
+    }))) (in_or_not (all_vars ps) v)
+
 -- where no variable is uncovered and no unwanted row is admitted, the start is right
-start_enough : (level : Level) → (g : List Statement) (rows unwanted : List Mapping) (header : List Name) (x : Name) (vs : List Name) (ps : List Pattern) (cs : List Cond) → ((v : Name) → In vs v → In header v)
+pub start_enough : (level : Level) → (g : List Statement) (rows unwanted : List Mapping) (header : List Name) (x : Name) (vs : List Name) (ps : List Pattern) (cs : List Cond) → ((v : Name) → In vs v → In header v)
     → HasOneDomain rows x vs → AreAllAt level g rows header x ps cs → ((v : Name) → ShowsUncovered g rows v → ⊥) → ((j : ℕ) → ShowsAdmitted level g rows unwanted j → ⊥)
     → IsRight And level g rows unwanted (plain_select vs (node ps cs leaf))
 start_enough level g rows unwanted header x vs ps cs inside one all covered admitted =
-    let row_binds : (v : Name) → In vs v → Binds one.seen.0 v = λ v h. ((all_in (Exactly vs) rows one.seen.0 one.exact one.seen.1) v).1 h in
-    let group = start_group level g rows header x vs ps cs one all (λ v h.
-    ⊎_elim (λ k. k) (λ out. absurd (covered v (record {
-      seen = (one.seen.0, one.seen.1, row_binds v h);
-      none = λ p common k. out (all_vars_in ps p v ((all.0 p).1 (lower g rows x v p (in_up rows x vs one v h) common)) k);
-    }))) (in_or_not (all_vars ps) v)) in
+    let group = start_group level g rows header x vs ps cs one all (start_covers g rows x vs ps one all.0 covered) in
     let of_class = of_group level vs ps cs group in
     record {
       in_class = of_class;
@@ -165,7 +170,7 @@ uncovered_none level g rows unwanted x claim q class fits =
     let w = row_var level g rows q class fits.all x claim.seen in claim.none w.0 (triple_common level g rows q class fits.all x w.0 w.1) w.2
 
 -- an unwanted row meets all that is common
-admitted_none : (level : Level) → (g : List Statement) (rows unwanted : List Mapping) (j : ℕ) → (rows ≡ [] → ⊥) → ShowsAdmitted level g rows unwanted j → NoFit (InAnd level) g rows unwanted
+pub admitted_none : (level : Level) → (g : List Statement) (rows unwanted : List Mapping) (j : ℕ) → (rows ≡ [] → ⊥) → ShowsAdmitted level g rows unwanted j → NoFit (InAnd level) g rows unwanted
 admitted_none level g rows unwanted j some claim q class fits =
     let w = some_row rows some in
     let met = each_meets level g rows q class fits.all in
@@ -207,8 +212,8 @@ number_of rows i j m n x at other b lacks = cases (either_less i j)
     cases (inr (inr l)) = inr l
 
 -- without a claim of domains each row binds what some row binds
-pub one_domain : (g : List Statement) (rows unwanted : List Mapping) → ((i j : ℕ) (x : Name) → ShowsDomains rows i j x → ⊥) → (m : Mapping) → In rows m → (v : Name) → IsSeen rows v → Binds m v
-one_domain g rows unwanted never m row v seen =
+pub one_domain : (rows : List Mapping) → ((i j : ℕ) (x : Name) → ShowsDomains rows i j x → ⊥) → (m : Mapping) → In rows m → (v : Name) → IsSeen rows v → Binds m v
+one_domain rows never m row v seen =
     ⊎_elim (λ b. b) (λ e.
     let lacks : Binds m v → ⊥ = λ b. not_bound (m v) e b in
     let here = in_at rows m row in
@@ -241,7 +246,7 @@ conjunction_enough level g w unwanted examples nofit never =
     never (record { level = level; class = And; claim = NoRoot }) refl refl (record {
       goes = tt;
       shown = λ x bound.
-          let one = has_one_domain w examples x bound (one_domain g w.rows unwanted (λ i j v claim. never (record { level = level; class = And; claim = Domains i j v }) refl refl (record { goes = tt; shown = claim }))) in
+          let one = has_one_domain w examples x bound (one_domain w.rows (λ i j v claim. never (record { level = level; class = And; claim = Domains i j v }) refl refl (record { goes = tt; shown = claim }))) in
           let vs = (seen_list w.rows w.vars).0 in
           some_lists level g w.rows w.vars x one.seen (λ v up. examples.within v (seen_up w.rows x v one.seen up)) (λ ps cs all.
           let right = start_enough level g w.rows unwanted w.vars x vs ps cs (λ v h. (seen_in w.rows w.vars vs (seen_list w.rows w.vars).1 v h).0) one all

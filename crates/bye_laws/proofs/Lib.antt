@@ -47,3 +47,5 @@ pub mod DomainDepths
 pub mod StrongestThere
 pub mod StrongestAt
 pub mod StartsThere
+pub mod StartsRight
+pub mod ClaimLists

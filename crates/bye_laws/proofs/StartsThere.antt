@@ -1,5 +1,5 @@
 -- There is a start of each class exactly where no claim about domains shows: its nodes are the strongest ones.
-use Rattle.std.proofs.Common.{◌≡◌, refl, ℕ, true, List, [], inl, inr, ⊎_elim, sym, subst}
+use Rattle.std.proofs.Common.{◌≡◌, refl, ℕ, true, List, [], inl, inr, ⊎_elim, sym, subst, ◌↔◌}
 use Rattle.std.specs.List.{AllByRecursion}
 use Rattle.bye_terms.specs.Members.{In}
 use Rattle.bye_terms.specs.Names.{is_name}
@@ -66,39 +66,49 @@ optional_there level g w examples names triples d over =
     (plain_select vs t, record { domains = d; tree = t; vars = vs; allowed = tt; over = over; conjuncts = is; selected = selected; query = refl })
 
 -- where each row binds what some row binds, the tree of domains is its root
-lone : (w : Wanted) (d : Domain) → IsDomainTree w d → ((m : Mapping) → In w.rows m → (v : Name) → IsSeen w.rows v → Binds m v) → HasDomains And d
+pub lone : (w : Wanted) (d : Domain) → IsDomainTree w d → ((m : Mapping) → In w.rows m → (v : Name) → IsSeen w.rows v → Binds m v) → HasDomains And d
 lone w (domain x none) over same = refl
 lone w (domain x (also e ds)) over same =
     let seen = (over.labels (label e) (inr (inl (label_self e)))).seen in
     absurd ((over.ordered.0 (label e) (inl (label_self e))).1 (all_from (λ m. Binds m x → Binds m (label e)) w.rows (λ m row b. same m row (label e) seen)))
 
 -- then no fork shows
-no_fork : (w : Wanted) → ((m : Mapping) → In w.rows m → (v : Name) → IsSeen w.rows v → Binds m v) → (x y z : Name) → ShowsFork w.rows x y z → ⊥
+pub no_fork : (w : Wanted) → ((m : Mapping) → In w.rows m → (v : Name) → IsSeen w.rows v → Binds m v) → (x y z : Name) → ShowsFork w.rows x y z → ⊥
 no_fork w same x y z fork = fork.first_apart (all_from (λ m. Binds m y → Binds m z) w.rows (λ m row b. same m row z (seen_up w.rows x z fork.seen fork.second)))
 
 -- a start of one conjunction
 conjunction_there : (level : Level) (g : List Statement) (w : Wanted) → AreExamples w → AreNames w.vars → AllByRecursion IsValidTriple g → (ShowsNoRoot w.rows → ⊥)
     → ((i j : ℕ) (x : Name) → ShowsDomains w.rows i j x → ⊥) → (start : Select) × IsStart And level g w start
 conjunction_there level g w examples names triples root never =
-    let same = one_domain g w.rows [] never in
+    let same = one_domain w.rows never in
     let (d, over) = (domain_tree w examples).1 (root, no_fork w same) in
     let (t, is) = start_tree_there level g w examples names triples d (λ x h. (over.labels x h).seen) in
     let (vs, selected) = seen_list w.rows w.vars in
     (plain_select vs t, record { domains = d; tree = t; vars = vs; allowed = lone w d over same; over = over; conjuncts = is; selected = selected; query = refl })
 
 -- over a tree of domains that is its root each row binds what some row binds
-lone_binds : (w : Wanted) (d : Domain) → HasDomains And d → IsDomainTree w d → (m : Mapping) → In w.rows m → (v : Name) → IsSeen w.rows v → Binds m v
+pub lone_binds : (w : Wanted) (d : Domain) → HasDomains And d → IsDomainTree w d → (m : Mapping) → In w.rows m → (v : Name) → IsSeen w.rows v → Binds m v
 lone_binds w (domain x ds) alone over m row v seen =
     let (y, h, same) = over.covers v seen in
     let e : x ≡ y = ⊎_elim (λ e. e) (λ k. absurd (subst (λ ds. IsLabelIn ds y) alone k)) h in
     within_row w.rows m x v row (subst (λ y. IsWithin w.rows y v) (sym e) same.0) (all_in (λ m. Binds m x) w.rows m over.root row)
 
 -- so no two rows have different domains
-no_domains : (w : Wanted) → ((m : Mapping) → In w.rows m → (v : Name) → IsSeen w.rows v → Binds m v) → (i j : ℕ) (x : Name) → ShowsDomains w.rows i j x → ⊥
+pub no_domains : (w : Wanted) → ((m : Mapping) → In w.rows m → (v : Name) → IsSeen w.rows v → Binds m v) → (i j : ℕ) (x : Name) → ShowsDomains w.rows i j x → ⊥
 no_domains w same i j x claim =
     let one = at_in w.rows i claim.one claim.one_row in
     let other = at_in w.rows j claim.other claim.other_row in
     ⊎_elim (λ h. h.1 (same claim.other other x (claim.one, one, h.0))) (λ h. h.0 (same claim.one one x (claim.other, other, h.1))) claim.binds
+
+-- a tree of one domain
+pub lone_tree : (w : Wanted) → AreExamples w → ((d : Domain) × HasDomains And d × IsDomainTree w d) ↔ ((ShowsNoRoot w.rows → ⊥) × ((i j : ℕ) (x : Name) → ShowsDomains w.rows i j x → ⊥))
+lone_tree w examples = (
+  (λ (d, alone, over). (((domain_tree w examples).0 (d, over)).0, no_domains w (lone_binds w d alone over))),
+  (λ (root, never).
+      let same = one_domain w.rows never in
+      let (d, over) = (domain_tree w examples).1 (root, no_fork w same) in
+      (d, lone w d over same, over)),
+)
 
 -- what is told of starts
 pub starts_told : StartsAreThereAndOne

@@ -1,14 +1,14 @@
 -- When some query of a class fits, by the start tree and by claims.
 use Rattle.bye_pattern.specs.declared.level.Level.{Level}
-use Rattle.std.specs.Prelude.{◌≡◌, List, [], ◌↔◌}
+use Rattle.std.specs.Prelude.{ℕ, ◌≡◌, List, [], ◌↔◌}
 use Rattle.bye_terms.specs.Members.{EachOnce, In}
 use Rattle.bye_terms.specs.Terms.{Statement}
 use Rattle.bye_pattern.specs.declared.class.Class.{Class}
 use Rattle.bye_pattern.specs.declared.class.Class.TheVariants.{And, Optional}
-use Rattle.bye_pattern.specs.Certificates.{CertificateValue, Shows, ShowsFork, ShowsNoRoot, ShowsUncovered}
+use Rattle.bye_pattern.specs.Certificates.{CertificateValue, Shows, ShowsAdmitted, ShowsDomains, ShowsExtension, ShowsFork, ShowsNoRoot, ShowsUncovered}
 use Rattle.bye_table.specs.Domains.{IsSeen, Wanted}
 use Rattle.bye_pattern.specs.Fitting.{NoFit}
-use Rattle.bye_pattern.specs.Keeping.{IsOfClass, IsRight, IsStart}
+use Rattle.bye_pattern.specs.Keeping.{HasDomains, IsOfClass, IsRight, IsStart}
 use Rattle.bye_table.specs.Mappings.{Mapping, Name}
 use Rattle.bye_table.specs.DomainTrees.{Domain, IsDomainTree}
 use Rattle.bye_pattern.specs.Trees.{Select}
@@ -44,12 +44,22 @@ abbrev pub CertificatesAreEnough : Type 0
 CertificatesAreEnough = (class : Class) (level : Level) (g : List Statement) (w : Wanted) (unwanted : List Mapping) → AreExamples w → Allows class unwanted
     → NoFit (IsOfClass class level w.rows) g w.rows unwanted → ((c : CertificateValue) → c.class ≡ class → c.level ≡ level → Shows g w.rows unwanted c → ⊥) → ⊥
 
--- there is a tree of domains exactly where neither noroot nor a fork shows
-abbrev pub DomainTreesByClaims : Type 0
-DomainTreesByClaims = (w : Wanted) → AreExamples w
-    → ((d : Domain) × IsDomainTree w d) ↔ ((ShowsNoRoot w.rows → ⊥) × ((x y z : Name) → ShowsFork w.rows x y z → ⊥))
+-- there is a tree of domains exactly where neither noroot nor a fork shows; and one of a single domain exactly where neither noroot
+-- shows nor that two rows have different domains
+pub record DomainTreesByClaims : Type 0 where
+  pub optional : (w : Wanted) → AreExamples w
+      → ((d : Domain) × IsDomainTree w d) ↔ ((ShowsNoRoot w.rows → ⊥) × ((x y z : Name) → ShowsFork w.rows x y z → ⊥))
+  pub conjunction : (w : Wanted) → AreExamples w
+      → ((d : Domain) × HasDomains And d × IsDomainTree w d) ↔ ((ShowsNoRoot w.rows → ⊥) × ((i j : ℕ) (x : Name) → ShowsDomains w.rows i j x → ⊥))
 
--- over a tree of domains the start is of the class with OPTIONAL groups exactly where no variable is uncovered
+-- a start is of its class exactly where no variable is uncovered
 abbrev pub StartsByCovering : Type 0
-StartsByCovering = (level : Level) (g : List Statement) (w : Wanted) (start : Select) → AreExamples w → IsStart Optional level g w start
-    → IsOfClass Optional level w.rows start ↔ ((x : Name) → ShowsUncovered g w.rows x → ⊥)
+StartsByCovering = (class : Class) (level : Level) (g : List Statement) (w : Wanted) (start : Select) → AreExamples w → IsStart class level g w start
+    → IsOfClass class level w.rows start ↔ ((x : Name) → ShowsUncovered g w.rows x → ⊥)
+
+-- a start that is of its class is right exactly where no unwanted row is admitted, or no wanted row can be extended
+pub record StartsAreRight : Type 0 where
+  pub conjunction : (level : Level) (g : List Statement) (w : Wanted) (unwanted : List Mapping) (start : Select) → AreExamples w → IsStart And level g w start → IsOfClass And level w.rows start
+      → IsRight And level g w.rows unwanted start ↔ ((j : ℕ) → ShowsAdmitted level g w.rows unwanted j → ⊥)
+  pub optional : (level : Level) (g : List Statement) (w : Wanted) (start : Select) → AreExamples w → IsStart Optional level g w start → IsOfClass Optional level w.rows start
+      → IsRight Optional level g w.rows [] start ↔ ((i : ℕ) (x : Name) (values : Mapping) → ShowsExtension level g w.rows i x values → ⊥)

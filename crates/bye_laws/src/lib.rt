@@ -7,12 +7,13 @@ ghost use Rattle.bye_laws.specs.Descending.{RowsByDescending};
 ghost use Rattle.bye_laws.specs.Values.{NoValuesByRows, StepsByValues};
 ghost use Rattle.bye_laws.specs.Restricting.{AnswersAreRestrictedRows};
 ghost use Rattle.bye_laws.specs.Nodes.{AnswersByNode};
-ghost use Rattle.bye_laws.specs.Completeness.{StartsFitIfAny, NoneFitsAsTheStart, CertificatesAreSound, CertificatesAreEnough, DomainTreesByClaims, StartsByCovering};
+ghost use Rattle.bye_laws.specs.Completeness.{StartsFitIfAny, NoneFitsAsTheStart, CertificatesAreSound, CertificatesAreEnough, DomainTreesByClaims, StartsAreRight, StartsByCovering};
 ghost use Rattle.bye_laws.specs.Passing.{KeptIsOne, SomethingIsKept, KeptIsMinimal, PassesKeepRight};
 ghost use Rattle.bye_laws.specs.LocalPass.{LocalPassKeeps};
 ghost use Rattle.bye_laws.specs.QueryDomains.{QueriesAreOverDomains};
 ghost use Rattle.bye_laws.specs.Settling.{PassesAreLocal, Settling};
 ghost use Rattle.bye_laws.specs.Serving.{LocalQuestions};
+ghost use Rattle.bye_laws.specs.Claiming.{ClaimsByLists, ValuesAreListed};
 ghost use Rattle.bye_laws.specs.Ordering.{OnePattern, SortedListsAreOneAndThere};
 ghost use Rattle.bye_laws.specs.DomainNodes.{DomainNodesAreTold, DomainTreesByDepth};
 ghost use Rattle.bye_laws.specs.Strongest.{StrongestNodes};
@@ -68,12 +69,12 @@ pub fn certificates_are_enough()
     ensures { CertificatesAreEnough }
 {}
 
-/// There is a tree of domains exactly where neither noroot nor a fork shows.
+/// There is a tree of domains exactly where neither noroot nor a fork shows, and one of a single domain where no two rows differ.
 pub fn domain_trees_by_claims()
     ensures { DomainTreesByClaims }
 {}
 
-/// The start is of the class with OPTIONAL groups exactly where no variable is uncovered.
+/// A start is of its class exactly where no variable is uncovered.
 pub fn starts_by_covering()
     ensures { StartsByCovering }
 {}
@@ -151,4 +152,19 @@ pub fn strongest_nodes()
 /// Each class has one start, exactly where no claim shows about which rows bind which variables.
 pub fn starts_are_there_and_one()
     ensures { StartsAreThereAndOne }
+{}
+
+/// A start that is of its class is right exactly where no unwanted row is admitted, or no wanted row can be extended.
+pub fn starts_are_right()
+    ensures { StartsAreRight }
+{}
+
+/// A claim shows exactly where the lists of a node say so.
+pub fn claims_by_lists()
+    ensures { ClaimsByLists }
+{}
+
+/// The values of an extension, listed in the table's order, are the same, of different variables, and there are some.
+pub fn values_are_listed()
+    ensures { ValuesAreListed }
 {}

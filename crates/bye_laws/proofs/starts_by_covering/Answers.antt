@@ -1,5 +1,5 @@
-use Rattle.bye_laws.proofs.OptionalStarts.{starts_by_covering}
+use Rattle.bye_laws.proofs.StartsRight.{by_covering}
 use Rattle.bye_laws.proofs.starts_by_covering.Goals as goal
 
 pub returns : goal.returns
-returns c = starts_by_covering
+returns c = by_covering
