@@ -22,7 +22,7 @@ use Rattle.bye_table.specs.DomainTrees.{Domain, IsDomainTree, domain, none}
 use Rattle.bye_pattern.specs.Starting.{IsCommonAt, IsCommonCondAt, IsStartNode, IsStartTree}
 use Rattle.bye_pattern.specs.Trees.{Select, Tree, alg, leaf, more, node, own_conds, own_triples, plain_select}
 use Rattle.bye_table.proofs.Merging.{bound, in_or_not, not_bound, some_or_none}
-use Rattle.bye_pattern.proofs.OneGroup.{all_vars_in, in_all_vars, meets_answer, meets_fits}
+use Rattle.bye_pattern.proofs.OneGroup.{all_vars_in, answer_meets, in_all_vars, meets_answer, meets_fits}
 use Rattle.bye_laws.specs.Completeness.{AreExamples}
 use Rattle.bye_laws.proofs.AllConjuncts.{AreAllAt, some_lists}
 use Rattle.bye_laws.proofs.CommonConditions.{in_form, lower}
@@ -306,3 +306,20 @@ pub conjunction_start_right : (level : Level) → (g : List Statement) (w : Want
 conjunction_start_right level g w unwanted start q examples is right =
     let p = start_parts level g w start examples is in
     subst (IsRight And level g w.rows unwanted) (sym p.is) (start_right level g w.rows unwanted w.vars p.x p.vs p.ps p.cs p.inside p.one p.all q right.in_class right.fits)
+
+-- each answer of the start is one of each query of the class that fits
+pub start_answers_shared : (level : Level) (g : List Statement) (w : Wanted) (unwanted : List Mapping) (start q : Select) (m : Mapping) → AreExamples w → IsStart And level g w start
+    → IsRight And level g w.rows unwanted q → IsAnswer g start.vars (alg start) m → IsAnswer g q.vars (alg q) m
+start_answers_shared level g w unwanted start q m examples is right answer =
+    let p = start_parts level g w start examples is in
+    let good = conjunction_start_right level g w unwanted start q examples is right in
+    let met : MeetsAll g (plain_select p.vs (node p.ps p.cs leaf)) m = subst (λ s. MeetsAll g s m) p.is (answer_meets level g start m good.in_class answer) in
+    let common = meets_common level g w.rows w.vars p.x p.vs p.ps p.cs p.inside p.one p.all m met in
+    let seen = p.one.seen in
+    let first = each_meets level g w.rows q right.in_class right.fits.all seen.0 seen.1 in
+    let here = all_in (Exactly p.vs) w.rows seen.0 p.one.exact seen.1 in
+    meets_answer level g q m right.in_class (record {
+      binds = λ v. ((λ b. (first.binds v).0 ((here v).1 ((met.binds v).0 b))), (λ h. (met.binds v).1 ((here v).0 ((first.binds v).1 h))));
+      triples = all_from (Meets g m) (own_triples q.tree) (λ r h. common.0 r (triple_common level g w.rows q right.in_class right.fits.all p.x r h));
+      conds = all_from (MeetsCond m) (own_conds q.tree) (λ c h. common.1 c (condition_common level g w.rows q right.in_class right.fits.all p.x c h));
+    })

@@ -49,3 +49,4 @@ pub mod StrongestAt
 pub mod StartsThere
 pub mod StartsRight
 pub mod ClaimLists
+pub mod Near

@@ -15,3 +15,4 @@ pub mod DomainNodes
 pub mod Strongest
 pub mod Beginning
 pub mod Claiming
+pub mod Later

@@ -14,6 +14,7 @@ ghost use Rattle.bye_laws.specs.QueryDomains.{QueriesAreOverDomains};
 ghost use Rattle.bye_laws.specs.Settling.{PassesAreLocal, Settling};
 ghost use Rattle.bye_laws.specs.Serving.{LocalQuestions};
 ghost use Rattle.bye_laws.specs.Claiming.{ClaimsByLists, ValuesAreListed};
+ghost use Rattle.bye_laws.specs.Later.{NearIsEnough, StartAnswersAreShared};
 ghost use Rattle.bye_laws.specs.Ordering.{OnePattern, SortedListsAreOneAndThere};
 ghost use Rattle.bye_laws.specs.DomainNodes.{DomainNodesAreTold, DomainTreesByDepth};
 ghost use Rattle.bye_laws.specs.Strongest.{StrongestNodes};
@@ -167,4 +168,14 @@ pub fn claims_by_lists()
 /// The values of an extension, listed in the table's order, are the same, of different variables, and there are some.
 pub fn values_are_listed()
     ensures { ValuesAreListed }
+{}
+
+/// Each answer of the start of one conjunction is an answer of each query of the class that fits.
+pub fn start_answers_are_shared()
+    ensures { StartAnswersAreShared }
+{}
+
+/// The triples with terms of the rows in them say all of one conjunction that the graph says.
+pub fn near_is_enough()
+    ensures { NearIsEnough }
 {}
