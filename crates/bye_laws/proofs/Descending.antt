@@ -26,12 +26,12 @@ pub step_binds : (g : List Statement) (x : Mapping) (t : Tree) (z : Mapping) →
 step_binds g x t z s v h = all_meets_bind g z (own_triples t) v s.meets.0 h
 
 -- what a mapping binds, one that keeps its values binds
-pub kept_binds : (x m : Mapping) → ((v : Name) (u : Term) → x v ≡ Some u → m v ≡ Some u) → (v : Name) → Binds x v → Binds m v
-kept_binds x m keeps v h = let w = bound (x v) h in binds (m v) w.0 (keeps v w.0 w.1)
+pub keeping_binds : (x m : Mapping) → ((v : Name) (u : Term) → x v ≡ Some u → m v ≡ Some u) → (v : Name) → Binds x v → Binds m v
+keeping_binds x m keeps v h = let w = bound (x v) h in binds (m v) w.0 (keeps v w.0 w.1)
 
 -- a mapping agrees with one that keeps its values, where it binds all that the other does
-pub kept_same : (x m : Mapping) → ((v : Name) (u : Term) → x v ≡ Some u → m v ≡ Some u) → (v : Name) → (Binds m v → Binds x v) → x v ≡ m v
-kept_same x m keeps v back =
+pub keeping_same : (x m : Mapping) → ((v : Name) (u : Term) → x v ≡ Some u → m v ≡ Some u) → (v : Name) → (Binds m v → Binds x v) → x v ≡ m v
+keeping_same x m keeps v back =
     ⊎_elim (λ k. let w = bound (x v) k in w.1 ∙ sym (keeps v w.0 w.1))
     (λ n. n ∙ sym (unbound (m v) (λ k. not_bound (x v) n (back k))))
     (some_or_none (x v))
@@ -42,10 +42,10 @@ grown_in : (g : List Statement) (parent seen : List Name) (ps : List Pattern) (c
 grown_in g parent seen ps cs h f d x z y m all s r q =
     let t : Tree = node ps cs h in
     let ext : (v : Name) (u : Term) → z v ≡ Some u → m v ≡ Some u = λ v u e. q.ext v u (r.ext v u e) in
-    let m_own : BindsAll m t = λ v k. kept_binds z m ext v (step_binds g x t z s v k) in
-    let up : (v : Name) → In parent v → Binds y v = λ v k. kept_binds z y r.ext v (kept_binds x z s.keeps v (all v k)) in
+    let m_own : BindsAll m t = λ v k. keeping_binds z m ext v (step_binds g x t z s v k) in
+    let up : (v : Name) → In parent v → Binds y v = λ v k. keeping_binds z y r.ext v (keeping_binds x z s.keeps v (all v k)) in
     let same : (v : Name) → In (tree_vars t) v → y v ≡ m v = λ v k.
-    kept_same y m q.ext v (λ b. ⊎_elim (λ i. i) (λ i. later_bound parent seen t f d y m up v k i) (q.over v b)) in
+    keeping_same y m q.ext v (λ b. ⊎_elim (λ i. i) (λ i. later_bound parent seen t f d y m up v k i) (q.over v b)) in
     record {
       ext = λ v u e. ext v u (s.keeps v u e);
       over = λ v b. ⊎_elim
@@ -57,7 +57,7 @@ grown_in g parent seen ps cs h f d x z y m all s r q =
           (q.over v b);
       all = λ v i. ⊎_elim
           (λ j. ⊎_elim (λ k. m_own v k)
-          (λ k. kept_binds y m q.ext v (r.all v (reached_same_forest m y h v (λ v k. sym (same v (in_right (all_vars ps) _ v k))) k))) j.1)
+          (λ k. keeping_binds y m q.ext v (r.all v (reached_same_forest m y h v (λ v k. sym (same v (in_right (all_vars ps) _ v k))) k))) j.1)
           (λ j. q.all v j) i;
       below = (
         inl (
@@ -110,7 +110,7 @@ mutual
   down_child g parent seen (node ps cs h) f d x y m all dom (inl (z, s, down)) rest =
       let r = down_forest g (all_vars ps) (seen ++ all_vars ps) h d.0.1 z y (step_binds g x (node ps cs h) z s)
       (λ v k. ⊎_elim (λ i. in_left _ _ v (dom v i)) (λ i. in_right seen _ v i) (s.within v k)) down in
-      let q = rest (λ v k. kept_binds z y r.ext v (kept_binds x z s.keeps v (all v k)))
+      let q = rest (λ v k. keeping_binds z y r.ext v (keeping_binds x z s.keeps v (all v k)))
       (λ v k. ⊎_elim
       (λ i. ⊎_elim (λ j. in_left _ _ v (dom v j)) (λ j. in_right seen _ v (in_left _ _ v j)) (s.within v i))
       (λ i. in_right seen _ v (in_right (all_vars ps) _ v (reached_in_forest y h v i)))
@@ -142,9 +142,9 @@ grown_child g parent seen ps cs h f d x m all q every below =
     let same_b : Compatible x b = λ v p u i k. some_same (sym (q.ext v p i) ∙ (restrict_some (tree_vars t) m v u k).1) in
     let y_m : (v : Name) (u : Term) → y v ≡ Some u → m v ≡ Some u = λ v u i. ⊎_elim (λ k. q.ext v u k) (λ k. (restrict_some (tree_vars t) m v u k).1) (merge_tells x b v u i) in
     let same : (v : Name) → In (tree_vars t) v → m v ≡ y v = λ v k.
-    sym (kept_same y m y_m v (λ i. let w = bound (m v) i in binds (y v) w.0 (merge_right x b v w.0 same_b (restrict_tells (tree_vars t) m v w.0 k w.1)))) in
+    sym (keeping_same y m y_m v (λ i. let w = bound (m v) i in binds (y v) w.0 (merge_right x b v w.0 same_b (restrict_tells (tree_vars t) m v w.0 k w.1)))) in
     let z_own : (v : Name) → In (all_vars ps) v → Binds z v = λ v k. let w = bound (m v) (every v k) in binds (z v) w.0 (merge_right x e v w.0 same_e (restrict_tells (all_vars ps) m v w.0 k w.1)) in
-    let z_up : (v : Name) → Binds x v → Binds z v = λ v k. kept_binds x z (λ v u i. merge_left x e v u i) v k in
+    let z_up : (v : Name) → Binds x v → Binds z v = λ v k. keeping_binds x z (λ v u i. merge_left x e v u i) v k in
     record {
       ext = λ v u i. ⊎_elim (λ k. merge_left x b v u k)
           (λ k. let r = restrict_some (all_vars ps) m v u k in merge_right x b v u same_b (restrict_tells (tree_vars t) m v u (in_left _ _ v r.0) r.1)) (merge_tells x e v u i);
@@ -202,7 +202,7 @@ mutual
               (λ v k. ⊎_elim (λ i. in_left _ _ v (dom v i)) (λ i. in_right seen _ v i) (s.within v k)) r,
         ),
         rest_grown g t f x m q.below.1 q.ext q.over q.all,
-        (λ v i. kept_binds x y (λ v u j. merge_left x b v u j) v (all v i)),
+        (λ v i. keeping_binds x y (λ v u j. merge_left x b v u j) v (all v i)),
         (λ v i. ⊎_elim (λ j. in_left _ _ v (dom v j)) (λ j. in_right seen _ v (restrict_binds (tree_vars t) m v j).0) (merge_bound x b v i)),
       ))
       (λ k. (
@@ -222,7 +222,7 @@ mutual
   forest_down : (g : List Statement) (parent seen : List Name) (f : Forest) → IsForest parent seen f → (x m : Mapping)
       → ((v : Name) → In parent v → Binds x v) → ((v : Name) → Binds x v → In seen v) → Grown g x f m → Down g x f m
   forest_down g parent seen leaf d x m all dom q =
-      λ i v. sym (kept_same x m q.ext v (λ h. ⊎_elim (λ k. k) (λ k. absurd k) (q.over v h))) i
+      λ i v. sym (keeping_same x m q.ext v (λ h. ⊎_elim (λ k. k) (λ k. absurd k) (q.over v h))) i
   forest_down g parent seen (more t f) d x m all dom q =
       let s = child_down g parent seen t f d x m all dom q in
       (s.0, s.1, forest_down g parent (seen ++ tree_vars t) f d.1 s.0 m s.3 s.4 s.2)
@@ -258,7 +258,7 @@ down_reached g (node ps cs h) d x m s down =
     let r = down_forest g (all_vars ps) (all_vars ps) h d.1 x m x_own own down in (
       record {
         binds = λ v k. ⊎_elim (λ i. inl (own v i)) (λ i. inr i) (r.over v k);
-        bound = λ v k. ⊎_elim (λ i. kept_binds x m r.ext v (x_own v i)) (λ i. r.all v i) k;
+        bound = λ v k. ⊎_elim (λ i. keeping_binds x m r.ext v (x_own v i)) (λ i. r.all v i) k;
         own = all_told g x m ps (λ v u k e. r.ext v u e) s.meets.0;
         below = r.below;
       },

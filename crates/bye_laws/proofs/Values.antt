@@ -20,7 +20,7 @@ second_of (Some t) o = None
 abbrev pub beside : Mapping → Mapping → Mapping
 beside m n v = second_of (m v) (n v)
 
--- it binds these alone, and all of these that the mapping binds
+-- such a term is there exactly where there is no first and there is a second
 second_bound : (o p : Option Term) → IsSome (second_of o p) → (IsSome o → ⊥) × IsSome p
 second_bound None p h = ((λ k. cc), h)
 second_bound (Some t) p h = cc
@@ -29,7 +29,7 @@ bound_second : (o p : Option Term) → (IsSome o → ⊥) → IsSome p → IsSom
 bound_second None p lacks h = h
 bound_second (Some t) p lacks h = absurd (lacks refl)
 
--- and the merge with it is the merge with the mapping
+-- the merge with what is beside is the merge with the whole
 first_second : (o p : Option Term) → first_of o (second_of o p) ≡ first_of o p
 first_second None p = refl
 first_second (Some t) p = refl
@@ -37,15 +37,15 @@ first_second (Some t) p = refl
 pub merge_beside : (m n : Mapping) → merge m (beside m n) ≡ merge m n
 merge_beside m n = λ i v. first_second (m v) (n v) i
 
--- a mapping that keeps the values of another is the merge with its part beside it
-kept_first : (o p : Option Term) → ((t : Term) → o ≡ Some t → p ≡ Some t) → p ≡ first_of o p
-kept_first None p keeps = refl
-kept_first (Some t) p keeps = keeps t refl
+-- a mapping that keeps the values of another is the merge of the other with it
+keeping_first : (o p : Option Term) → ((t : Term) → o ≡ Some t → p ≡ Some t) → p ≡ first_of o p
+keeping_first None p keeps = refl
+keeping_first (Some t) p keeps = keeps t refl
 
-pub kept_merge : (m n : Mapping) → ((v : Name) (t : Term) → m v ≡ Some t → n v ≡ Some t) → n ≡ merge m n
-kept_merge m n keeps = λ i v. kept_first (m v) (n v) (keeps v) i
+pub keeping_merge : (m n : Mapping) → ((v : Name) (t : Term) → m v ≡ Some t → n v ≡ Some t) → n ≡ merge m n
+keeping_merge m n keeps = λ i v. keeping_first (m v) (n v) (keeps v) i
 
--- values from a mapping whose own variables are the node's or bound, and with which the node is met
+-- what is beside m are values, where the merge meets the node and binds besides variables of the node's triples alone
 pub values_beside : (g : List Statement) (m : Mapping) (t : Tree) (n : Mapping) → ((v : Name) → Binds n v → (Binds m v → ⊥) → In (own_vars t) v) → MeetsNode g (merge m n) t
     → AreValues g m t (beside m n)
 values_beside g m t n over meets = record {
@@ -56,7 +56,7 @@ values_beside g m t n over meets = record {
   meets = subst (λ z. MeetsNode g z t) (sym (merge_beside m n)) meets;
 }
 
--- values say nothing of what the mapping binds
+-- values agree with the mapping, since they bind nothing that it binds
 pub values_agree : (g : List Statement) (m : Mapping) (t : Tree) (e : Mapping) → AreValues g m t e → Compatible m e
 values_agree g m t e values v p u i k = absurd (((values.exactly v).0 (binds (e v) u k)).1 (binds (m v) p i))
 
@@ -71,7 +71,7 @@ open_none g m t shut e over agree meets = shut (beside m e) (values_beside g m t
 -- a step has values
 pub step_values : (g : List Statement) (m : Mapping) (t : Tree) (z : Mapping) → IsStep g m t z → (e : Mapping) × AreValues g m t e × (z ≡ merge m e)
 step_values g m t z s =
-    let same = kept_merge m z s.keeps in (
+    let same = keeping_merge m z s.keeps in (
       beside m z,
       values_beside g m t z (λ v h lacks. ⊎_elim (λ k. absurd (lacks k)) (λ k. k) (s.within v h)) (subst (λ z. MeetsNode g z t) same s.meets),
       same ∙ sym (merge_beside m z),

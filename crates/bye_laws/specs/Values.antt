@@ -12,10 +12,10 @@ pub record AreValues (g : List Statement) (m : Mapping) (t : Tree) (e : Mapping)
   pub exactly : (v : Name) → Binds e v ↔ (In (own_vars t) v × (Binds m v → ⊥))
   pub meets : MeetsNode g (merge m e) t
 
--- a mapping has no values for a node exactly where no mapping is such
+-- a mapping has no values for a node exactly where there is no such mapping
 abbrev pub NoValuesByRows : Type 0
 NoValuesByRows = (g : List Statement) (m : Mapping) (t : Tree) → NoValues g m t ↔ ((e : Mapping) → AreValues g m t e → ⊥)
 
--- a step is the merge of a mapping with its values
+-- the steps at a node from a mapping are its merges with such mappings
 abbrev pub StepsByValues : Type 0
 StepsByValues = (g : List Statement) (m : Mapping) (t : Tree) (z : Mapping) → IsStep g m t z ↔ ((e : Mapping) × AreValues g m t e × (z ≡ merge m e))

@@ -20,7 +20,8 @@ ghost use Rattle.bye_laws.specs.DomainNodes.{DomainNodesAreTold, DomainTreesByDe
 ghost use Rattle.bye_laws.specs.Strongest.{StrongestNodes};
 ghost use Rattle.bye_laws.specs.Beginning.{StartsAreThereAndOne};
 
-/// A row of a well-designed tree is told by the nodes that it reaches (SPARQL 1.1 Query, section 18.5).
+/// A row of a query over a well-designed tree is told by the nodes that it reaches and by the further expressions of the root
+/// (SPARQL 1.1 Query, section 18.5).
 pub fn rows_by_reaching()
     ensures { RowsByReaching }
 {}
@@ -30,12 +31,12 @@ pub fn rows_by_descending()
     ensures { RowsByDescending }
 {}
 
-/// There are no values for a node beside a mapping exactly where no mapping of the variables that it leaves open there is such.
+/// A mapping has no values for a node exactly where no mapping of the variables that it leaves open there makes it meet the node.
 pub fn no_values_by_rows()
     ensures { NoValuesByRows }
 {}
 
-/// A step at a node is the merge of a mapping with values of the variables that it leaves open there.
+/// The steps at a node from a mapping are its merges with mappings of the variables that it leaves open there.
 pub fn steps_by_values()
     ensures { StepsByValues }
 {}
