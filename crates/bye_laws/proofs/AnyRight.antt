@@ -1,6 +1,5 @@
 -- One pass over any query that is right: what it leaves is right, minimal, and in order.
-use Rattle.std.proofs.Common.{◌≡◌, refl, true, List, [], ◌∷◌, inl, inr, sym, ◌∙◌, ap, subst}
-use Rattle.std.specs.List.{AllByRecursion}
+use Rattle.std.proofs.Common.{◌≡◌, true, List, [], ◌∷◌, inl, inr, sym, subst}
 use Rattle.std.specs.Ordering.{is_lt}
 use Rattle.bye_terms.specs.Terms.{Statement}
 use Rattle.bye_table.specs.Mappings.{Mapping, Name}
@@ -9,7 +8,7 @@ use Rattle.bye_pattern.specs.declared.class.Class.TheVariants.{And, Optional}
 use Rattle.bye_pattern.specs.declared.cond.Cond.{Cond}
 use Rattle.bye_pattern.specs.declared.level.Level.{Level}
 use Rattle.bye_pattern.specs.Conjuncts.{Drops}
-use Rattle.bye_pattern.specs.Keeping.{IsMinimal, IsOfClass, IsRight, IsThinned, IsThinnedForest, IsThinnedTree}
+use Rattle.bye_pattern.specs.Keeping.{IsOfClass, IsRight, IsThinned, IsThinnedForest, IsThinnedTree}
 use Rattle.bye_pattern.specs.Patterns.{Pattern}
 use Rattle.bye_pattern.specs.Starting.{AreInTrialOrder, IsTriedBefore}
 use Rattle.bye_pattern.specs.Trees.{Forest, Select, Tree, leaf, more, node, plain_select}

@@ -1,5 +1,5 @@
 -- What is decided: whether terms are equal, whether a mapping meets a conjunct, and whether all of a list do; and what is decided with it.
-use Rattle.std.proofs.Common.{◌≡◌, refl, Bool, true, false, List, [], ◌∷◌, Option, Some, None, ◌⊎◌, inl, inr, ⊎_elim, sym, ◌∙◌, ap, subst, ◌↔◌}
+use Rattle.std.proofs.Common.{◌≡◌, refl, Bool, true, false, List, [], ◌∷◌, Option, Some, None, ◌⊎◌, inl, inr, ⊎_elim, sym, ap, subst, ◌↔◌}
 use Rattle.std.specs.List.{AllByRecursion, filter}
 use Rattle.bye_terms.specs.declared.term.Term.{Term}
 use Rattle.bye_terms.specs.Members.{In}
@@ -7,10 +7,10 @@ use Rattle.bye_terms.specs.Terms.{Statement}
 use Rattle.bye_terms.proofs.Lists.{filtered, in_filtered}
 use Rattle.bye_terms.proofs.Members.{all_from, all_in}
 use Rattle.bye_terms.proofs.Tests.{bool_cases, not_both}
-use Rattle.bye_table.specs.Mappings.{Mapping, Name}
+use Rattle.bye_table.specs.Mappings.{Mapping}
 use Rattle.bye_table.proofs.Merging.{some_same}
 use Rattle.bye_pattern.specs.declared.cond.Cond.{Cond}
-use Rattle.bye_pattern.specs.Conditions.{Holds, cond_expr, same_term, value}
+use Rattle.bye_pattern.specs.Conditions.{cond_expr, same_term, value}
 use Rattle.bye_pattern.specs.Conjuncts.{MeetsCond}
 use Rattle.bye_pattern.specs.Patterns.{Becomes, Meets, Pattern, slot_under}
 use Rattle.bye_pattern.proofs.SameTerms.{same_self, terms_same}

@@ -6,13 +6,14 @@ use Rattle.bye_terms.specs.Members.{In}
 use Rattle.bye_table.specs.Domains.{BindsEach, IsBelow, Wanted}
 use Rattle.bye_table.specs.DomainTrees.{Domain, IsDomainTree, IsFirstOfClass, Subdomains, also, domain, label, none}
 use Rattle.bye_table.specs.Mappings.{Mapping, Name}
+use Rattle.bye_pattern.specs.Certificates.{ShowsFork, ShowsNoRoot}
 use Rattle.bye_laws.specs.Completeness.{AreExamples}
 use Rattle.bye_laws.specs.DomainNodes.{AreLabels, DomainTreesByDepth, IsChildAmong, TellsChildren, subdomains_of, tree_at}
 use Rattle.bye_laws.proofs.Decided.{is_so, not_so, so_from, so_to}
-use Rattle.bye_laws.proofs.DomainLabels.{IsTopIn, label_self, top_label}
+use Rattle.bye_laws.proofs.DomainLabels.{IsTopIn, label_self, no_fork, top_label}
 use Rattle.bye_laws.proofs.DomainNodes.{labels_one, labels_there}
 use Rattle.bye_laws.proofs.DomainParts.{ArePart, IsListed, IsPart, below_trans, children_are, children_part, first_part, not_below_self, rest_part, to_labels, tops, whole_part}
-use Rattle.bye_laws.proofs.DomainTrees.{one_first}
+use Rattle.bye_laws.proofs.DomainTrees.{domain_tree, one_first}
 use Rattle.bye_laws.proofs.Withins.{below_or_not, within_each}
 
 -- how many pass, with one more
@@ -118,6 +119,13 @@ tree_made w d labels is_child depth x examples tree names tells le first each =
     let same : x ≡ label d = one_first w examples x (label d) first (tree.labels (label d) (label_self d)) (within_each w.rows x (label d) tree.root, within_each w.rows (label d) x each) in
     ap (tree_at is_child labels depth) same ∙ whole_tree w labels is_child d (record { examples = examples; tree = tree; names = names; tells = tells }) depth le
 
+-- what is made from there is a tree of domains where no fork shows
+tree_done : (w : Wanted) (labels : List Name) (is_child : Name → Name → Bool) (depth : ℕ) (x : Name) → AreExamples w → AreLabels w labels → TellsChildren w.rows labels is_child
+    → length labels ≤ depth → IsFirstOfClass w x → BindsEach w.rows x → ((y z u : Name) → ShowsFork w.rows y z u → ⊥) → IsDomainTree w (tree_at is_child labels depth x)
+tree_done w labels is_child depth x examples names tells le first each free =
+    let (d, tree) = (domain_tree w examples).1 ((λ (root : ShowsNoRoot w.rows). root x each), free) in
+    subst (IsDomainTree w) (sym (tree_made w d labels is_child depth x examples tree names tells le first each)) tree
+
 -- a label lies between y and x
 abbrev LiesBetween : List Mapping → Name → Name → Name → Type 0
 LiesBetween rows x y t = IsBelow rows y t × IsBelow rows t x
@@ -163,4 +171,5 @@ depth_told = record {
   one_of_labels = labels_one;
   test = test_there;
   tree = tree_made;
+  made = λ w labels is_child depth x examples names tells le first each. (no_fork w (tree_at is_child labels depth x), tree_done w labels is_child depth x examples names tells le first each);
 }

@@ -1,6 +1,6 @@
 -- What is kept is one query, and of a start that is right it is right and minimal.
 use Rattle.bye_pattern.specs.declared.level.Level.{Level}
-use Rattle.std.proofs.Common.{◌≡◌, refl, true, List, [], ◌∷◌, ◌⊎◌, inl, inr, ⊎_elim, sym, ◌∙◌, ap, subst, ◌↔◌}
+use Rattle.std.proofs.Common.{◌≡◌, refl, true, List, [], ◌∷◌, ◌⊎◌, inl, inr, ⊎_elim, sym, ◌∙◌, subst, ◌↔◌}
 use Rattle.std.specs.List.{AllByRecursion}
 use Rattle.std.specs.Ordering.{is_lt}
 use Rattle.bye_terms.specs.Members.{EachOnce, In}
@@ -8,11 +8,9 @@ use Rattle.bye_terms.specs.Terms.{Statement}
 use Rattle.bye_terms.proofs.Members.{all_in}
 use Rattle.bye_terms.proofs.Tests.{not_both}
 use Rattle.bye_pattern.specs.declared.class.Class.{Class}
-use Rattle.bye_pattern.specs.declared.class.Class.TheVariants.{And, Optional}
 use Rattle.bye_pattern.specs.declared.kind.Kind.{Kind}
 use Rattle.bye_pattern.specs.declared.kind.Kind.TheVariants as kinds
 use Rattle.bye_pattern.specs.declared.cond.Cond.{Cond}
-use Rattle.bye_pattern.specs.Conjuncts.{Drops}
 use Rattle.bye_table.specs.Domains.{IsBefore, Wanted}
 use Rattle.bye_pattern.specs.Keeping.{IsKept, IsMinimal, IsRight, IsStart, IsThinnedTree}
 use Rattle.bye_table.specs.Mappings.{Mapping, Name}
@@ -29,9 +27,6 @@ use Rattle.bye_laws.proofs.AnyRight.{passes_keep_right}
 use Rattle.bye_laws.proofs.Examples.{one_seen_list}
 use Rattle.bye_laws.proofs.Once.{once_tree, some_tree}
 use Rattle.bye_laws.proofs.OneDomainTree.{not_both_before, one_domain_tree}
-use Rattle.bye_laws.proofs.OptionalKept.{optional_kept}
-use Rattle.bye_laws.proofs.OptionalStarts.{optional_parts}
-use Rattle.bye_laws.proofs.Passes.{thin_tree}
 use Rattle.bye_pattern.specs.declared.cond.Cond.TheVariants as conds
 
 -- a sorted list is told by its elements

@@ -2,9 +2,9 @@
 use Rattle.bye_pattern.specs.declared.level.Level.{Level}
 use Rattle.std.proofs.Common.{List}
 use Rattle.bye_terms.specs.Terms.{Statement}
-use Rattle.bye_table.specs.Domains.{AreAlike, BindsEach, IsBelow, IsSeen, IsWithin, Wanted}
+use Rattle.bye_table.specs.Domains.{IsWithin, Wanted}
 use Rattle.bye_table.specs.Mappings.{Mapping, Name}
-use Rattle.bye_table.specs.DomainTrees.{AreOrdered, Domain, IsBeside, IsDomainTree, IsLabel, IsLabelIn, IsOrdered, Subdomains, also, domain, label, none}
+use Rattle.bye_table.specs.DomainTrees.{AreOrdered, Domain, IsBeside, IsDomainTree, IsLabel, IsLabelIn, IsOrdered, Subdomains, also, domain, none}
 use Rattle.bye_pattern.specs.Starting.{IsStartForest, IsStartTree}
 use Rattle.bye_pattern.specs.Trees.{Forest, Tree, leaf, more, node}
 use Rattle.bye_laws.specs.QueryDomains.{AreDomains, AreNested, AreNestedIn}

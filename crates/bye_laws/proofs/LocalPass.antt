@@ -1,7 +1,6 @@
 -- The pass that asks at each node alone keeps what the pass over the whole tree keeps.
 use Rattle.bye_pattern.specs.declared.level.Level.{Level}
 use Rattle.std.proofs.Common.{refl, List, [], ◌∷◌, inl, inr, sym, subst, ◌↔◌}
-use Rattle.std.specs.List.{AllByRecursion}
 use Rattle.bye_terms.specs.Terms.{Statement}
 use Rattle.bye_terms.proofs.Members.{all_from, all_in}
 use Rattle.bye_pattern.specs.declared.class.Class.TheVariants.{Optional}
@@ -14,7 +13,7 @@ use Rattle.bye_table.specs.DomainTrees.{Domain, IsDomainTree, Subdomains, also, 
 use Rattle.bye_pattern.specs.Starting.{IsStartTree}
 use Rattle.bye_pattern.specs.Trees.{Forest, Tree, leaf, more, node, plain_select}
 use Rattle.bye_laws.specs.Completeness.{AreExamples}
-use Rattle.bye_laws.specs.LocalPass.{AreOver, AreSettled, AreThinnedHere, ByDomain, ByDomains, IsOver, IsSettled, IsThinnedHere}
+use Rattle.bye_laws.specs.LocalPass.{AreSettled, AreThinnedHere, ByDomain, ByDomains, IsOver, IsSettled, IsThinnedHere}
 use Rattle.bye_laws.specs.Reaching.{NoValues}
 use Rattle.bye_laws.proofs.ClassStarts.{class_is_over}
 use Rattle.bye_laws.specs.QueryDomains.{AreDomains}

@@ -1,26 +1,22 @@
 -- What is asked before a conjunct goes.
 use Rattle.bye_pattern.specs.declared.level.Level.{Level}
-use Rattle.std.proofs.Common.{◌≡◌, refl, List, [], ◌∷◌, inl, ⊎_elim, ◌↔◌}
+use Rattle.std.proofs.Common.{List, ◌↔◌}
 use Rattle.std.specs.List.{AllByRecursion}
 use Rattle.bye_terms.specs.Characters.{within}
 use Rattle.bye_terms.specs.Members.{In}
 use Rattle.bye_terms.specs.Terms.{Statement}
 use Rattle.bye_terms.proofs.Members.{all_from, all_in}
-use Rattle.bye_pattern.specs.declared.class.Class.TheVariants.{And}
 use Rattle.bye_pattern.specs.declared.cond.Cond.{Cond}
 use Rattle.bye_pattern.specs.Classes.{IsClassCond, IsClassTriple}
 use Rattle.bye_pattern.specs.Conjuncts.{MeetsCond}
 use Rattle.bye_pattern.specs.Designed.{IsSafe}
 use Rattle.bye_table.specs.Domains.{AreAlike, IsSeen}
-use Rattle.bye_pattern.specs.Keeping.{IsRight}
-use Rattle.bye_pattern.specs.Laws.{MeetsAll}
 use Rattle.bye_table.specs.Mappings.{Mapping, Name}
 use Rattle.bye_pattern.specs.Patterns.{Meets, Pattern, all_vars}
 use Rattle.bye_table.specs.DomainTrees.{Subdomains, domain}
-use Rattle.bye_pattern.specs.Trees.{Forest, leaf, node, plain_select}
-use Rattle.bye_pattern.proofs.OneGroup.{fits_meets, meets_fits}
+use Rattle.bye_pattern.specs.Trees.{Forest, node}
 use Rattle.bye_laws.specs.LocalPass.{AreOver, ByDomain, IsSettled, IsShut}
-use Rattle.bye_laws.proofs.Conjunctions.{all_vars_within, all_within, group_of, of_group}
+use Rattle.bye_laws.proofs.Conjunctions.{all_vars_within, all_within}
 use Rattle.bye_laws.specs.Parts.{Within}
 
 -- a condition may go exactly where no search finds values

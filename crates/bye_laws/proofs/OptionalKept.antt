@@ -2,13 +2,13 @@
 use Rattle.bye_pattern.specs.declared.level.Level.{Level}
 use Rattle.std.proofs.Common.{refl, List, [], inl, inr, ⊎_elim, ◌↔◌}
 use Rattle.std.specs.List.{AllByRecursion}
-use Rattle.bye_terms.specs.Members.{EachOnce, In}
+use Rattle.bye_terms.specs.Members.{In}
 use Rattle.bye_terms.specs.Terms.{Statement}
 use Rattle.bye_terms.proofs.Members.{all_from, all_in}
 use Rattle.bye_pattern.specs.declared.class.Class.TheVariants.{Optional}
 use Rattle.bye_pattern.specs.Classes.{IsClassCond, IsClassTriple}
 use Rattle.bye_pattern.specs.Conjuncts.{Drops}
-use Rattle.bye_table.specs.Domains.{IsSeen, IsWithin}
+use Rattle.bye_table.specs.Domains.{IsWithin}
 use Rattle.bye_pattern.specs.Keeping.{IsRight, IsThinnedTree}
 use Rattle.bye_table.specs.Mappings.{Mapping, Name}
 use Rattle.bye_pattern.specs.Optional.{InOptional, IsNewAt, IsNode, IsNodeIn}

@@ -1,8 +1,8 @@
 -- A query of the class with OPTIONAL groups is over each tree of variables that are new at its nodes.
-use Rattle.std.proofs.Common.{◌≡◌, refl, List, [], ◌++◌, ◌⊎◌, inl, inr, ⊎_elim, sym, subst, ◌↔◌}
+use Rattle.std.proofs.Common.{refl, List, [], ◌++◌, inl, inr, ⊎_elim, sym, subst}
 use Rattle.bye_terms.specs.Members.{In}
-use Rattle.bye_terms.proofs.Members.{in_left, in_right}
-use Rattle.bye_table.specs.Domains.{IsBelow, IsSeen, IsWithin}
+use Rattle.bye_terms.proofs.Members.{in_right}
+use Rattle.bye_table.specs.Domains.{IsWithin}
 use Rattle.bye_table.specs.DomainTrees.{Domain, IsLabel, IsLabelIn, Subdomains, also, domain, label, none}
 use Rattle.bye_table.specs.Mappings.{Mapping, Name}
 use Rattle.bye_table.proofs.Merging.{in_or_not}
@@ -11,7 +11,7 @@ use Rattle.bye_pattern.specs.Designed.{IsForest, IsTree}
 use Rattle.bye_pattern.specs.Optional.{InOptional, IsAncestor, IsNewAt, IsNode, IsNodeIn}
 use Rattle.bye_pattern.specs.Patterns.{all_vars}
 use Rattle.bye_pattern.specs.Trees.{Forest, Select, Tree, leaf, more, node, own_vars, tree_vars}
-use Rattle.bye_pattern.proofs.Places.{fresh_in, node_vars, node_vars_in}
+use Rattle.bye_pattern.proofs.Places.{fresh_in, node_vars}
 use Rattle.bye_laws.specs.LocalPass.{AreOver, IsOver}
 use Rattle.bye_laws.specs.QueryDomains.{AreDomains, AreNamedBy, AreNested, AreNestedIn, IsNamedBy, Selects}
 use Rattle.bye_laws.proofs.ByNodes.{class_at, new_at, once_designed, order_at}

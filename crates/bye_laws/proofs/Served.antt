@@ -1,10 +1,8 @@
 -- Conjuncts of one group may go exactly where those that are left serve each demand.
-use Rattle.std.proofs.Common.{◌≡◌, refl, List, [], ◌∷◌, inl, inr, ⊎_elim, sym, subst, ◌↔◌}
-use Rattle.std.specs.List.{AllByRecursion}
+use Rattle.std.proofs.Common.{List, [], inl, inr, ⊎_elim, ◌↔◌}
 use Rattle.bye_terms.specs.Members.{In}
 use Rattle.bye_terms.specs.Terms.{Statement}
 use Rattle.bye_terms.proofs.Members.{all_from, all_in}
-use Rattle.bye_table.specs.Domains.{AreAlike, IsSeen, IsWithin}
 use Rattle.bye_table.specs.DomainTrees.{Domain, Subdomains, also, domain, label, none}
 use Rattle.bye_table.specs.Mappings.{Exactly, Mapping, Name}
 use Rattle.bye_table.proofs.Merging.{in_or_not}
@@ -12,15 +10,14 @@ use Rattle.bye_pattern.specs.declared.class.Class.TheVariants.{And}
 use Rattle.bye_pattern.specs.declared.cond.Cond.{Cond}
 use Rattle.bye_pattern.specs.declared.level.Level.{Level}
 use Rattle.bye_pattern.specs.Classes.{IsClassCond, IsClassTriple}
-use Rattle.bye_pattern.specs.Conditions.{cond_vars}
 use Rattle.bye_pattern.specs.Conjuncts.{MeetsCond}
 use Rattle.bye_pattern.specs.Designed.{IsSafe}
 use Rattle.bye_pattern.specs.Keeping.{IsRight}
 use Rattle.bye_pattern.specs.Laws.{MeetsAll}
 use Rattle.bye_pattern.specs.Patterns.{Meets, Pattern, all_vars}
-use Rattle.bye_pattern.specs.Trees.{Forest, Tree, leaf, more, node, own_conds, own_vars, plain_select}
+use Rattle.bye_pattern.specs.Trees.{Forest, Tree, leaf, more, node, plain_select}
 use Rattle.bye_pattern.proofs.OneGroup.{fits_meets, meets_fits}
-use Rattle.bye_laws.specs.LocalPass.{AreOver, IsGroupOf, IsOver, IsSettled, IsShut}
+use Rattle.bye_laws.specs.LocalPass.{AreOver, IsOver, IsSettled, IsShut}
 use Rattle.bye_laws.specs.Parts.{Within}
 use Rattle.bye_laws.specs.Serving.{AreServed, FailsOne, IsNeeded, IsNeededBelow, IsNeededByChild}
 use Rattle.bye_laws.proofs.Conjunctions.{all_vars_within, all_within, group_of, of_group}

@@ -1,5 +1,5 @@
 -- Lists in strict order: a finite list has one with the same members, and there is one alone.
-use Rattle.std.proofs.Common.{◌≡◌, refl, true, List, [], ◌∷◌, ◌⊎◌, inl, inr, ⊎_elim, sym, ◌∙◌, ap, subst, ◌↔◌}
+use Rattle.std.proofs.Common.{◌≡◌, refl, true, false, List, [], ◌∷◌, ◌⊎◌, inl, inr, ⊎_elim, sym, ◌∙◌, ap, subst, ◌↔◌}
 use Rattle.std.specs.List.{AllByRecursion}
 use Rattle.std.specs.Ordering.{is_lt}
 use Rattle.bye_terms.specs.Members.{EachOnce, In}
@@ -13,7 +13,7 @@ use Rattle.bye_table.specs.Domains.{IsBefore}
 use Rattle.bye_table.specs.Mappings.{Name}
 use Rattle.bye_pattern.specs.Patterns.{Pattern}
 use Rattle.bye_pattern.specs.Starting.{AreInTrialOrder, IsKindBefore, IsTriedBefore}
-use Rattle.bye_pattern.specs.TrialOrder.{IsInStrictOrder, trial_cmp}
+use Rattle.bye_pattern.specs.TrialOrder.{IsInStrictOrder, IsInTrialOrder, trial_cmp}
 use Rattle.bye_pattern.proofs.Orders.{trial_weak}
 use Rattle.bye_laws.specs.Ordering.{AreOrderable, HaveSameMembers, IsSorted, IsValidPattern, SortedListsAreOneAndThere}
 use Rattle.bye_laws.proofs.DomainTrees.{before_in, one_before}
@@ -228,9 +228,31 @@ ordered_conditions header cs once o =
     let w = sorted_there (IsTriedBefore header) (conditions_chain header once) cs (conditions_compared header cs o) in
     (w.0, order_from header w.0 w.1, w.2)
 
+-- valid patterns in strict order stand in the order of trial, each once
+strict_once : (ps : List Pattern) → IsInStrictOrder ps → EachOnce ps × IsInTrialOrder ps
+strict_once [] h = (tt, tt)
+strict_once (p ∷ ps) h =
+    let rest = strict_once ps h.1 in (
+      ((λ k. let first = all_in (λ q. is_lt (trial_cmp p q) ≡ true) ps p h.0 k in patterns_apart p p first first), rest.0),
+      (all_from (λ q. is_lt (trial_cmp q p) ≡ false) ps (λ q k. trial_weak.one_way p q (all_in (λ q. is_lt (trial_cmp p q) ≡ true) ps q h.0 k)), rest.1),
+    )
+
+-- and the other way round
+once_strict : (ps : List Pattern) → AllByRecursion IsValidPattern ps → EachOnce ps → IsInTrialOrder ps → IsInStrictOrder ps
+once_strict [] valid once h = tt
+once_strict (p ∷ ps) valid once h = (
+  all_from (λ q. is_lt (trial_cmp p q) ≡ true) ps (λ q k.
+      ⊎_elim
+      (λ e. absurd (once.0 (subst (In ps) (sym e) k)))
+      (λ r. ⊎_elim (λ first. first.0) (λ first. absurd (not_both _ first.0 (all_in (λ q. is_lt (trial_cmp q p) ≡ false) ps q h.0 k))) r)
+      (tried_first p q valid.0 (all_in IsValidPattern ps q valid.1 k))),
+  once_strict ps valid.1 once.1 h.1,
+)
+
 -- both are there, and one
 pub sorted_lists : SortedListsAreOneAndThere
 sorted_lists = record {
+  strict = λ ps valid. (strict_once ps, λ h. once_strict ps valid h.0 h.1);
   patterns = strict_patterns;
   one_of_patterns = λ ps qs a b same. sorted_same (λ p q. is_lt (trial_cmp p q) ≡ true) patterns_apart ps qs (tried_strictly ps a) (tried_strictly qs b) same;
   conditions = ordered_conditions;

@@ -20,22 +20,21 @@ use Rattle.bye_laws.specs.Beginning.{StartsAreThereAndOne}
 use Rattle.bye_laws.specs.Completeness.{AreExamples}
 use Rattle.bye_laws.specs.Strongest.{AreNames, IsValidTriple}
 use Rattle.bye_laws.proofs.ConjunctionStarts.{one_domain}
-use Rattle.bye_laws.proofs.Decided.{picked}
 use Rattle.bye_laws.proofs.DomainLabels.{label_self}
 use Rattle.bye_laws.proofs.DomainTrees.{domain_tree}
 use Rattle.bye_laws.proofs.Examples.{at_in, seen_list}
 use Rattle.bye_laws.proofs.KeptQueries.{one_start}
 use Rattle.bye_laws.proofs.OneDomainTree.{one_domain_tree}
-use Rattle.bye_laws.proofs.StrongestAt.{around_there, sorted_once, start_at}
+use Rattle.bye_laws.proofs.StrongestAt.{around_there, rows_there, sorted_once, start_at}
 use Rattle.bye_laws.proofs.StrongestThere.{strongest_there}
-use Rattle.bye_laws.proofs.Withins.{binds_or_not, seen_up, within_row}
+use Rattle.bye_laws.proofs.Withins.{seen_up, within_row}
 
 -- the node of a variable that some row binds
 node_there : (level : Level) (g : List Statement) (w : Wanted) (x : Name) → AreExamples w → AreNames w.vars → AllByRecursion IsValidTriple g → IsSeen w.rows x
     → (ps : List Pattern) × (cs : List Cond) × IsStartNode level g w x ps cs
 node_there level g w x examples names triples seen =
     let (vs, around) = around_there w x examples seen in
-    let (rows, at) = picked (λ m. Binds m x) (λ m. binds_or_not m x) w.rows in
+    let (rows, at) = rows_there w.rows x in
     let named : AreNames vs = all_from (λ v. is_name v ≡ true) vs (λ v h. all_in (λ v. is_name v ≡ true) w.vars v names (examples.within v (seen_up w.rows x v seen ((around.members v).0 h)))) in
     let (ps, cs, s) = strongest_there level g vs rows (sorted_once w.vars vs examples.once around.sorted) named triples (λ e. subst (λ (rows : List Mapping). In rows seen.0) e ((at seen.0).1 (seen.1, seen.2))) in
     (ps, cs, (start_at level g w x vs rows ps cs examples around at).0 s)

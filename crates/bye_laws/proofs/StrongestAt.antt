@@ -18,12 +18,13 @@ use Rattle.bye_pattern.specs.TrialOrder.{trial_cmp}
 use Rattle.bye_laws.specs.Completeness.{AreExamples}
 use Rattle.bye_laws.specs.Ordering.{IsSorted}
 use Rattle.bye_laws.specs.Strongest.{AreAround, AreRowsOf, IsStrongestNode, StrongestNodes}
+use Rattle.bye_laws.proofs.Decided.{picked}
 use Rattle.bye_laws.proofs.DomainNodes.{chosen, names_one}
 use Rattle.bye_laws.proofs.DomainTrees.{one_before}
 use Rattle.bye_laws.proofs.KeptQueries.{conditions_apart, patterns_apart, sorted_same, tried_in_order, tried_strictly}
 use Rattle.bye_laws.proofs.OneDomainTree.{not_both_before}
 use Rattle.bye_laws.proofs.StrongestThere.{strongest_there}
-use Rattle.bye_laws.proofs.Withins.{seen_up, within_or_not}
+use Rattle.bye_laws.proofs.Withins.{binds_or_not, seen_up, within_or_not}
 
 -- in a part of a list in its order each stands once
 pub sorted_once : (header vs : List Name) → EachOnce header → IsSorted (IsBefore header) vs → EachOnce vs
@@ -154,6 +155,10 @@ around_there w x examples seen =
     let c = chosen (IsWithin w.rows x) (within_or_not w.rows x) w.vars in
     (c.0, record { members = λ v. ((λ h. ((c.2 v).0 h).1), (λ h. (c.2 v).1 (examples.within v (seen_up w.rows x v seen h), h))); sorted = c.1 })
 
+-- and so are the rows that bind x
+pub rows_there : (rows : List Mapping) (x : Name) → (others : List Mapping) × AreRowsOf rows x others
+rows_there rows x = picked (λ m. Binds m x) (λ m. binds_or_not m x) rows
+
 -- what is told of strongest nodes
 pub strongest_nodes_told : StrongestNodes
 strongest_nodes_told = record {
@@ -161,5 +166,6 @@ strongest_nodes_told = record {
   one = strongest_one;
   around = around_there;
   one_around = λ w x vs us examples a b. names_one w.vars vs us (IsWithin w.rows x) (λ y z. not_both_before w.vars y z examples.once) a.sorted b.sorted a.members b.members;
+  rows = rows_there;
   start = start_at;
 }

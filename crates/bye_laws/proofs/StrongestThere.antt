@@ -1,5 +1,5 @@
 -- The strongest node over a header is there: it is decided which of finitely many patterns and conditions are common, and these have a list in order.
-use Rattle.std.proofs.Common.{◌≡◌, refl, Bool, true, false, List, [], ◌∷◌, ◌++◌, Option, Some, None, ◌⊎◌, inl, inr, ⊎_elim, sym, ◌∙◌, subst, ◌↔◌}
+use Rattle.std.proofs.Common.{◌≡◌, refl, true, false, List, [], ◌∷◌, ◌++◌, Some, ◌⊎◌, inl, inr, ⊎_elim, sym, ◌∙◌, subst, ◌↔◌}
 use Rattle.std.specs.List.{AllByRecursion, flat_map}
 use Rattle.bye_terms.specs.Members.{EachOnce, In}
 use Rattle.bye_terms.specs.Names.{is_name}
@@ -8,7 +8,7 @@ use Rattle.bye_terms.specs.Valid.{IsTerm}
 use Rattle.bye_terms.specs.declared.term.Term.{Term}
 use Rattle.bye_terms.proofs.Members.{all_from, all_in, in_left, in_right}
 use Rattle.bye_table.specs.Domains.{IsBefore}
-use Rattle.bye_table.specs.Mappings.{Binds, Mapping, Name}
+use Rattle.bye_table.specs.Mappings.{Mapping, Name}
 use Rattle.bye_table.proofs.Merging.{in_or_not, some_same}
 use Rattle.bye_pattern.specs.declared.cond.Cond.{Cond}
 use Rattle.bye_pattern.specs.declared.cond.Cond.TheVariants as conds
@@ -18,9 +18,9 @@ use Rattle.bye_pattern.specs.declared.slot.Slot.{Slot}
 use Rattle.bye_pattern.specs.declared.slot.Slot.TheVariants.{Var, Const}
 use Rattle.bye_pattern.specs.Classes.{IsClassCond, IsClassTriple}
 use Rattle.bye_pattern.specs.Common.{IsCommon, IsCommonCond}
-use Rattle.bye_pattern.specs.Conditions.{Holds, cond_expr, cond_vars, value}
+use Rattle.bye_pattern.specs.Conditions.{Holds, cond_vars}
 use Rattle.bye_pattern.specs.Conjuncts.{MeetsCond}
-use Rattle.bye_pattern.specs.Patterns.{Becomes, IsNamed, Meets, Pattern, slot_under, slot_vars, vars}
+use Rattle.bye_pattern.specs.Patterns.{IsNamed, Meets, Pattern, slot_under, slot_vars, vars}
 use Rattle.bye_pattern.specs.Starting.{AreInTrialOrder, IsInForm}
 use Rattle.bye_pattern.specs.TrialOrder.{IsInStrictOrder}
 use Rattle.bye_pattern.proofs.Standing.{predicate_place, subject_place}
@@ -31,7 +31,6 @@ use Rattle.bye_laws.proofs.Decided.{all_or_not, both_or_not, each_or_not, either
 use Rattle.bye_laws.proofs.DomainTrees.{same_or_not}
 use Rattle.bye_laws.proofs.Examples.{some_row}
 use Rattle.bye_laws.proofs.SortedLists.{ordered_conditions, strict_patterns}
-use Rattle.bye_laws.proofs.Withins.{binds_or_not}
 
 -- a place is named or is not
 named_or_not : (s : Slot) → IsNamed s ⊎ (IsNamed s → ⊥)

@@ -5,6 +5,7 @@ use Rattle.bye_terms.specs.Members.{In}
 use Rattle.bye_table.specs.Domains.{AreAlike, BindsEach, InE, IsBefore, IsBelow, IsSeen, Wanted}
 use Rattle.bye_table.specs.DomainTrees.{Domain, IsDomainTree, IsFirstOfClass, IsLabel, IsLabelIn, Subdomains, also, domain, none}
 use Rattle.bye_table.specs.Mappings.{Mapping, Name}
+use Rattle.bye_pattern.specs.Certificates.{ShowsFork}
 use Rattle.bye_laws.specs.Completeness.{AreExamples}
 use Rattle.bye_laws.specs.Ordering.{IsSorted}
 
@@ -73,3 +74,7 @@ pub record DomainTreesByDepth : Type 0 where
   -- and the number of all labels is depth enough
   pub tree : (w : Wanted) (d : Domain) (labels : List Name) (is_child : Name → Name → Bool) (depth : ℕ) (x : Name) → AreExamples w → IsDomainTree w d → AreLabels w labels
       → TellsChildren w.rows labels is_child → length labels ≤ depth → IsFirstOfClass w x → BindsEach w.rows x → tree_at is_child labels depth x ≡ d
+  -- what is made so is a tree of domains exactly where no fork shows
+  pub made : (w : Wanted) (labels : List Name) (is_child : Name → Name → Bool) (depth : ℕ) (x : Name) → AreExamples w → AreLabels w labels
+      → TellsChildren w.rows labels is_child → length labels ≤ depth → IsFirstOfClass w x → BindsEach w.rows x
+      → IsDomainTree w (tree_at is_child labels depth x) ↔ ((y z u : Name) → ShowsFork w.rows y z u → ⊥)

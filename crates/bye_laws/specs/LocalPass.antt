@@ -1,18 +1,17 @@
 -- The pass over a tree of the class with OPTIONAL groups, each question asked at its own node: over a tree of domains, by the
 -- variables that name them.
 use Rattle.bye_pattern.specs.declared.level.Level.{Level}
-use Rattle.std.specs.Prelude.{◌≡◌, List, [], ◌↔◌}
+use Rattle.std.specs.Prelude.{◌≡◌, List, []}
 use Rattle.std.specs.List.{AllByRecursion}
 use Rattle.bye_terms.specs.Members.{In}
 use Rattle.bye_terms.specs.Terms.{Statement}
-use Rattle.bye_pattern.specs.declared.class.Class.TheVariants.{And, Optional}
+use Rattle.bye_pattern.specs.declared.class.Class.TheVariants.{Optional}
 use Rattle.bye_pattern.specs.declared.cond.Cond.{Cond}
 use Rattle.bye_pattern.specs.Classes.{IsClassCond, IsClassTriple}
 use Rattle.bye_pattern.specs.Conjuncts.{MeetsCond}
 use Rattle.bye_pattern.specs.Designed.{IsSafe}
 use Rattle.bye_table.specs.Domains.{AreAlike, AreSelected, IsSeen, IsWithin, Wanted}
 use Rattle.bye_pattern.specs.Keeping.{IsKept, IsRight, IsThinned}
-use Rattle.bye_pattern.specs.Laws.{MeetsAll}
 use Rattle.bye_table.specs.Mappings.{Binds, Mapping, Name}
 use Rattle.bye_pattern.specs.Patterns.{Meets, Pattern, all_vars}
 use Rattle.bye_table.specs.DomainTrees.{Domain, IsDomainTree, Subdomains, also, domain, label, none}

@@ -14,7 +14,7 @@ use Rattle.bye_pattern.specs.declared.slot.Slot.TheVariants.{Var, Const}
 use Rattle.bye_pattern.specs.Conditions.{cond_vars}
 use Rattle.bye_pattern.specs.Patterns.{Pattern, is_place}
 use Rattle.bye_pattern.specs.Starting.{AreInTrialOrder}
-use Rattle.bye_pattern.specs.TrialOrder.{IsInStrictOrder, line_bytes, trial_cmp}
+use Rattle.bye_pattern.specs.TrialOrder.{IsInStrictOrder, IsInTrialOrder, line_bytes, trial_cmp}
 
 -- a place with the name of a variable or a term of RDF
 abbrev pub IsValidSlot : Slot → Type 0
@@ -54,6 +54,8 @@ pub record AreOrderable (header : List Name) (cs : List Cond) : Type 0 where
 
 -- valid patterns stand in one list in strict order, and conditions over a header in one list in the order of trial
 pub record SortedListsAreOneAndThere : Type 0 where
+  -- the order is strict where each stands once
+  pub strict : (ps : List Pattern) → AllByRecursion IsValidPattern ps → IsInStrictOrder ps ↔ (EachOnce ps × IsInTrialOrder ps)
   pub patterns : (ps : List Pattern) → AllByRecursion IsValidPattern ps → (qs : List Pattern) × IsInStrictOrder qs × HaveSameMembers qs ps
   pub one_of_patterns : (ps qs : List Pattern) → IsInStrictOrder ps → IsInStrictOrder qs → HaveSameMembers ps qs → ps ≡ qs
   pub conditions : (header : List Name) (cs : List Cond) → EachOnce header → AreOrderable header cs → (ds : List Cond) × AreInTrialOrder header ds × HaveSameMembers ds cs

@@ -1,5 +1,5 @@
 -- What is asked before conjuncts go: whether those that are left still serve.
-use Rattle.std.specs.Prelude.{List, [], ◌⊎◌, ◌↔◌}
+use Rattle.std.specs.Prelude.{List, ◌⊎◌, ◌↔◌}
 use Rattle.std.specs.List.{AllByRecursion}
 use Rattle.bye_terms.specs.Members.{In}
 use Rattle.bye_terms.specs.Terms.{Statement}

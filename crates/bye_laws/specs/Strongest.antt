@@ -51,5 +51,6 @@ pub record StrongestNodes : Type 0 where
       → IsStrongestNode level g header rows ps cs → IsStrongestNode level g header rows qs ds → (ps ≡ qs) × (cs ≡ ds)
   pub around : (w : Wanted) (x : Name) → AreExamples w → IsSeen w.rows x → (vs : List Name) × AreAround w x vs
   pub one_around : (w : Wanted) (x : Name) (vs us : List Name) → AreExamples w → AreAround w x vs → AreAround w x us → vs ≡ us
+  pub rows : (rows : List Mapping) (x : Name) → (others : List Mapping) × AreRowsOf rows x others
   pub start : (level : Level) (g : List Statement) (w : Wanted) (x : Name) (vs : List Name) (rows : List Mapping) (ps : List Pattern) (cs : List Cond) → AreExamples w → AreAround w x vs
       → AreRowsOf w.rows x rows → IsStrongestNode level g vs rows ps cs ↔ IsStartNode level g w x ps cs
