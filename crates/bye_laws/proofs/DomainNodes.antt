@@ -61,8 +61,8 @@ variables_there w x examples =
     (c.0, record { members = λ v. ((λ h. ((c.2 v).0 h).1), (λ h. (c.2 v).1 (examples.within v h.0, h))); sorted = c.1 })
 
 -- names in the order of a list are told by their members
-pub names_one : (header vs us : List Name) (P : Name → Type 0) → ((x y : Name) → IsBefore header x y → IsBefore header y x → ⊥) → IsSorted (IsBefore header) vs → IsSorted (IsBefore header) us
-    → ((v : Name) → In vs v ↔ P v) → ((v : Name) → In us v ↔ P v) → vs ≡ us
+pub names_one : (header vs us : List Name) (P : Name → Type 0) → ((x y : Name) → IsBefore header x y → IsBefore header y x → ⊥) → IsSorted (IsBefore header) vs
+    → IsSorted (IsBefore header) us → ((v : Name) → In vs v ↔ P v) → ((v : Name) → In us v ↔ P v) → vs ≡ us
 names_one header vs us P apart a b first second =
     sorted_same (IsBefore header) apart vs us a b (λ v. ((λ h. (second v).1 ((first v).0 h)), (λ h. (first v).1 ((second v).0 h))))
 

@@ -1,5 +1,5 @@
 -- There is a start of each class exactly where no claim about domains shows: its nodes are the strongest ones.
-use Rattle.std.proofs.Common.{◌≡◌, refl, ℕ, true, List, [], inl, inr, ⊎_elim, sym, subst, ◌↔◌}
+use Rattle.std.proofs.Common.{◌≡◌, refl, ℕ, true, List, inl, inr, ⊎_elim, sym, subst, ◌↔◌}
 use Rattle.std.specs.List.{AllByRecursion}
 use Rattle.bye_terms.specs.Members.{In}
 use Rattle.bye_terms.specs.Names.{is_name}
@@ -41,15 +41,15 @@ node_there level g w x examples names triples seen =
 
 -- the tree over a tree of domains
 mutual
-  start_tree_there : (level : Level) (g : List Statement) (w : Wanted) → AreExamples w → AreNames w.vars → AllByRecursion IsValidTriple g → (d : Domain) → ((x : Name) → IsLabel d x → IsSeen w.rows x)
-      → (t : Tree) × IsStartTree level g w d t
+  start_tree_there : (level : Level) (g : List Statement) (w : Wanted) → AreExamples w → AreNames w.vars → AllByRecursion IsValidTriple g → (d : Domain)
+      → ((x : Name) → IsLabel d x → IsSeen w.rows x) → (t : Tree) × IsStartTree level g w d t
   start_tree_there level g w examples names triples (domain x ds) seen =
       let (ps, cs, n) = node_there level g w x examples names triples (seen x (inl refl)) in
       let (f, rest) = start_forest_there level g w examples names triples ds (λ y h. seen y (inr h)) in
       (node ps cs f, (n, rest))
 
-  start_forest_there : (level : Level) (g : List Statement) (w : Wanted) → AreExamples w → AreNames w.vars → AllByRecursion IsValidTriple g → (ds : Subdomains) → ((x : Name) → IsLabelIn ds x → IsSeen w.rows x)
-      → (f : Forest) × IsStartForest level g w ds f
+  start_forest_there : (level : Level) (g : List Statement) (w : Wanted) → AreExamples w → AreNames w.vars → AllByRecursion IsValidTriple g → (ds : Subdomains)
+      → ((x : Name) → IsLabelIn ds x → IsSeen w.rows x) → (f : Forest) × IsStartForest level g w ds f
   start_forest_there level g w examples names triples none seen = (leaf, tt)
   start_forest_there level g w examples names triples (also d ds) seen =
       let (t, first) = start_tree_there level g w examples names triples d (λ x h. seen x (inl h)) in

@@ -46,7 +46,8 @@ before_part header vs v w once sorted h k before =
     (one_before vs v w h k)
 
 -- a condition tried before another one by one order of names is so by another, which orders their names the same way
-tried_for : (us names : List Name) (c d : Cond) → ((v w : Name) → In (cond_vars c) v → In (cond_vars d) w → IsBefore us v w → IsBefore names v w) → IsTriedBefore us c d → IsTriedBefore names c d
+tried_for : (us names : List Name) (c d : Cond) → ((v w : Name) → In (cond_vars c) v → In (cond_vars d) w → IsBefore us v w → IsBefore names v w) → IsTriedBefore us c d
+    → IsTriedBefore names c d
 tried_for us names (conds.Bound v) (conds.Bound w) f h = f v w (inl refl) (inl refl) h
 tried_for us names (conds.Bound v) (conds.SameVar w x) f h = h
 tried_for us names (conds.Bound v) (conds.SameConst w t) f h = h
@@ -65,8 +66,8 @@ tried_for us names (conds.KindOf kind v) (conds.SameConst w t) f h = h
 tried_for us names (conds.KindOf kind v) (conds.KindOf other w) f h = ⊎_elim (λ k. inl (f v w (inl refl) (inl refl) k)) (λ k. inr k) h
 
 -- so is a list of conditions
-order_for : (us names vs : List Name) → ((v w : Name) → In vs v → In vs w → IsBefore us v w → IsBefore names v w) → (cs : List Cond) → ((c : Cond) → In cs c → (v : Name) → In (cond_vars c) v → In vs v)
-    → AreInTrialOrder us cs → AreInTrialOrder names cs
+order_for : (us names vs : List Name) → ((v w : Name) → In vs v → In vs w → IsBefore us v w → IsBefore names v w) → (cs : List Cond)
+    → ((c : Cond) → In cs c → (v : Name) → In (cond_vars c) v → In vs v) → AreInTrialOrder us cs → AreInTrialOrder names cs
 order_for us names vs f [] over h = tt
 order_for us names vs f (c ∷ cs) over h = (
   all_from (IsTriedBefore names c) cs (λ d k. tried_for us names c d (λ v w i j. f v w (over c (inl refl) v i) (over d (inr k) w j)) (all_in (IsTriedBefore us c) cs d h.0 k)),
@@ -81,7 +82,8 @@ form_for us names (conds.SameConst v t) f h = h
 form_for us names (conds.KindOf kind v) f h = h
 
 -- what is common over Up(x) in the rows that bind x is common at x
-common_at : (g : List Statement) (w : Wanted) (x : Name) (vs : List Name) (rows : List Mapping) → AreAround w x vs → AreRowsOf w.rows x rows → (p : Pattern) → IsCommon g vs rows p ↔ IsCommonAt g w.rows x p
+common_at : (g : List Statement) (w : Wanted) (x : Name) (vs : List Name) (rows : List Mapping) → AreAround w x vs → AreRowsOf w.rows x rows → (p : Pattern)
+    → IsCommon g vs rows p ↔ IsCommonAt g w.rows x p
 common_at g w x vs rows around at p = (
   (λ c. record {
     in_class = c.in_class;
@@ -96,7 +98,8 @@ common_at g w x vs rows around at p = (
 )
 
 -- so are conditions
-common_cond_at : (level : Level) (w : Wanted) (x : Name) (vs : List Name) (rows : List Mapping) → AreAround w x vs → AreRowsOf w.rows x rows → (c : Cond) → IsCommonCond level vs rows c ↔ IsCommonCondAt level w.rows x c
+common_cond_at : (level : Level) (w : Wanted) (x : Name) (vs : List Name) (rows : List Mapping) → AreAround w x vs → AreRowsOf w.rows x rows → (c : Cond)
+    → IsCommonCond level vs rows c ↔ IsCommonCondAt level w.rows x c
 common_cond_at level w x vs rows around at d = (
   (λ c. record {
     in_class = c.in_class;
@@ -111,8 +114,8 @@ common_cond_at level w x vs rows around at d = (
 )
 
 -- the strongest node is the start's, and the other way round
-pub start_at : (level : Level) (g : List Statement) (w : Wanted) (x : Name) (vs : List Name) (rows : List Mapping) (ps : List Pattern) (cs : List Cond) → AreExamples w → AreAround w x vs
-    → AreRowsOf w.rows x rows → IsStrongestNode level g vs rows ps cs ↔ IsStartNode level g w x ps cs
+pub start_at : (level : Level) (g : List Statement) (w : Wanted) (x : Name) (vs : List Name) (rows : List Mapping) (ps : List Pattern) (cs : List Cond) → AreExamples w
+    → AreAround w x vs → AreRowsOf w.rows x rows → IsStrongestNode level g vs rows ps cs ↔ IsStartNode level g w x ps cs
 start_at level g w x vs rows ps cs examples around at =
     let up : (v u : Name) → IsBefore vs v u → IsBefore w.vars v u = λ v u b. part_before w.vars vs v u around.sorted b in
     let down : (v u : Name) → In vs v → In vs u → IsBefore w.vars v u → IsBefore vs v u = λ v u h k b. before_part w.vars vs v u examples.once around.sorted h k b in (

@@ -86,8 +86,8 @@ valid_slot m (Var v) t named valid e = named v (inl refl)
 valid_slot m (Const c) t named valid e = subst IsTerm (sym (some_same e)) valid
 
 -- and so is the pattern
-valid_pattern : (g : List Statement) (header : List Name) (rows : List Mapping) (m : Mapping) (p : Pattern) → AreNames header → AllByRecursion IsValidTriple g → In rows m → IsCommon g header rows p
-    → IsValidPattern p
+valid_pattern : (g : List Statement) (header : List Name) (rows : List Mapping) (m : Mapping) (p : Pattern) → AreNames header → AllByRecursion IsValidTriple g → In rows m
+    → IsCommon g header rows p → IsValidPattern p
 valid_pattern g header rows m p names triples row common =
     let (f, there, is) = all_in (λ m. Meets g m p) rows m common.holds row in
     let t = all_in IsValidTriple g f triples there in
@@ -133,8 +133,8 @@ conditions_there level header rows m once row =
     )
 
 -- so there is the strongest node
-pub strongest_there : (level : Level) (g : List Statement) (header : List Name) (rows : List Mapping) → EachOnce header → AreNames header → AllByRecursion IsValidTriple g → (rows ≡ [] → ⊥)
-    → (ps : List Pattern) × (cs : List Cond) × IsStrongestNode level g header rows ps cs
+pub strongest_there : (level : Level) (g : List Statement) (header : List Name) (rows : List Mapping) → EachOnce header → AreNames header → AllByRecursion IsValidTriple g
+    → (rows ≡ [] → ⊥) → (ps : List Pattern) × (cs : List Cond) × IsStrongestNode level g header rows ps cs
 strongest_there level g header rows once names triples some =
     let row = some_row rows some in
     let ps = patterns_there g header rows row.0 names triples row.1 in
