@@ -22,6 +22,7 @@ pub mod Labels
 pub mod Lifts
 pub mod PassMaps
 pub mod Once
+pub mod PassSteps
 pub mod QueryPlaces
 pub mod QueryDomains
 pub mod StartTrees
