@@ -3,3 +3,4 @@ pub mod Nodes
 pub mod Completeness
 pub mod Passing
 pub mod LocalPass
+pub mod Written

@@ -7,6 +7,7 @@ ghost use Rattle.bye_laws.specs.Nodes.{AnswersByNode};
 ghost use Rattle.bye_laws.specs.Completeness.{StartsFitIfAny, NoneFitsAsTheStart, CertificatesAreSound, CertificatesAreEnough, DomainTreesByClaims, StartsByCovering};
 ghost use Rattle.bye_laws.specs.Passing.{KeptIsOne, SomethingIsKept, KeptIsMinimal};
 ghost use Rattle.bye_laws.specs.LocalPass.{LocalPassKeeps, LocalQuestions};
+ghost use Rattle.bye_laws.specs.Written.{BrokenOrDesignedEarly, EarlyIsDesigned, WrittenAnswers};
 
 /// A row of a well-designed tree is told by the nodes that it reaches (SPARQL 1.1 Query, section 18.5).
 pub fn rows_by_reaching()
@@ -72,4 +73,20 @@ pub fn local_pass_keeps()
 /// What is asked at a node before a conjunct goes.
 pub fn local_questions()
     ensures { LocalQuestions }
+{}
+
+/// A written query that keeps the four rules, by what stands before each OPTIONAL, is read as a well-designed tree.
+pub fn early_is_designed()
+    ensures { EarlyIsDesigned }
+{}
+
+/// The answers of a written query, in the order of its text, are those of the select that it is read as
+/// (SPARQL 1.1 Query, sections 18.2.2 and 18.5).
+pub fn written_answers()
+    ensures { WrittenAnswers }
+{}
+
+/// A written query keeps the rules by what stands before each OPTIONAL, or one node is the first that breaks one.
+pub fn broken_or_designed_early()
+    ensures { BrokenOrDesignedEarly }
 {}
