@@ -7,7 +7,7 @@ ghost use Rattle.bye_laws.specs.Nodes.{AnswersByNode};
 ghost use Rattle.bye_laws.specs.Completeness.{StartsFitIfAny, NoneFitsAsTheStart, CertificatesAreSound, CertificatesAreEnough, DomainTreesByClaims, StartsByCovering};
 ghost use Rattle.bye_laws.specs.Passing.{KeptIsOne, SomethingIsKept, KeptIsMinimal};
 ghost use Rattle.bye_laws.specs.LocalPass.{LocalPassKeeps, LocalQuestions};
-ghost use Rattle.bye_laws.specs.Written.{BrokenOrDesignedEarly, EarlyIsDesigned, WrittenAnswers};
+ghost use Rattle.bye_laws.specs.Written.{BrokenOrDesignedEarly, EarlyIsDesigned, GatheredSelects, WrittenAnswers};
 
 /// A row of a well-designed tree is told by the nodes that it reaches (SPARQL 1.1 Query, section 18.5).
 pub fn rows_by_reaching()
@@ -89,4 +89,9 @@ pub fn written_answers()
 /// A written query keeps the rules by what stands before each OPTIONAL, or one node is the first that breaks one.
 pub fn broken_or_designed_early()
     ensures { BrokenOrDesignedEarly }
+{}
+
+/// What a written query selects, and what is left of its FILTERs beside the conditions of the root.
+pub fn gathered_selects()
+    ensures { GatheredSelects }
 {}
