@@ -56,3 +56,4 @@ pub mod StartsThere
 pub mod StartsRight
 pub mod ClaimLists
 pub mod Near
+pub mod Selecting

@@ -1,5 +1,9 @@
 -- What is said of written queries: that they are read as well-designed trees, with the same answers, or name a broken rule.
-use Rattle.std.specs.Prelude.{◌≡◌, ℕ, List, [], ◌∷◌, Some, None, ◌⊎◌, ◌↔◌}
+use Rattle.bye_pattern.specs.Selects.{IsSelect}
+use Rattle.bye_pattern.specs.Optional.{InOptional}
+use Rattle.bye_pattern.specs.Classes.{InAnd}
+use Rattle.bye_pattern.specs.declared.level.Level.{Level}
+use Rattle.std.specs.Prelude.{◌≡◌, ℕ, List, [], ◌∷◌, Some, None, ◌⊎◌, ◌↔◌, false}
 use Rattle.bye_terms.specs.Terms.{Statement}
 use Rattle.bye_terms.specs.Members.{EachOnce, In}
 use Rattle.bye_table.specs.Mappings.{Mapping, Name}
@@ -7,7 +11,7 @@ use Rattle.bye_pattern.specs.declared.cond.Cond.{Cond}
 use Rattle.bye_pattern.specs.declared.rule.Rule.{Rule}
 use Rattle.bye_pattern.specs.Algebra.{IsAnswer}
 use Rattle.bye_pattern.specs.Conditions.{Expr, cond_vars}
-use Rattle.bye_pattern.specs.Trees.{alg, own_vars, tree_vars}
+use Rattle.bye_pattern.specs.Trees.{alg, own_vars, tree_vars, Select}
 use Rattle.bye_pattern.specs.Designed.{IsWellDesigned}
 use Rattle.bye_pattern.specs.Written.{Written}
 use Rattle.bye_pattern.specs.Gathered.{HasPlainOptionals, IsBrokenEarly, IsDesignedEarly, IsWrittenAnswer, conjuncts, gather, plain}
@@ -35,3 +39,11 @@ pub record GatheredSelects : Type 0 where
   -- no outer expression is a conjunction, or a plain condition whose variables all occur in the root's triples
   pub split : (w : Written) (e : Expr) → In (gather w).outer e → conjuncts e ≡ e ∷ []
   pub outer : (w : Written) (e : Expr) (c : Cond) → In (gather w).outer e → plain e ≡ Some c → ((v : Name) → In (cond_vars c) v → In (own_vars (gather w).tree) v) → ⊥
+
+-- what is learned, and what a written query that keeps the rules is read as, is a SELECT of the program: it selects a variable and
+-- none twice, and all of the tree's without DISTINCT
+pub record ReadAsSelects : Type 0 where
+  pub conjunction : (level : Level) (q : Select) → InAnd level q → IsSelect q
+  pub optional : (level : Level) (rows : List Mapping) (q : Select) → InOptional level rows q → IsSelect q
+  pub written : (w : Written) → IsDesignedEarly w → ((vs : List Name) → w.vars ≡ Some vs → (vs ≡ [] → ⊥) × EachOnce vs)
+      → (w.distinct ≡ false → (v : Name) → In (tree_vars (gather w).tree) v → In (gather w).vars v) → IsSelect (gather w)
