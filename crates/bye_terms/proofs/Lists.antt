@@ -1,8 +1,7 @@
 -- Tests of a list's elements, lists that are filtered, and lists that are mapped.
-use Rattle.std.proofs.Common.{◌≡◌, refl, Bool, true, false, cond, not, ◌||◌, List, [], ◌∷◌, ◌++◌, map, inl, inr, ⊎_elim, sym, ◌∙◌, ap, subst}
+use Rattle.std.proofs.Common.{◌≡◌, refl, Bool, true, false, cond, ◌||◌, List, [], ◌∷◌, ◌++◌, map, inl, inr, ⊎_elim, sym, ◌∙◌, ap, subst}
 use Rattle.std.specs.List.{AllByRecursion, filter, list_any, list_all}
 use Rattle.bye_terms.specs.Members.{In, EachOnce}
-use Rattle.bye_terms.proofs.Members.{all_from, all_in}
 use Rattle.bye_terms.proofs.Tests.{bool_cases, both, both_parts, not_both, one_part, second}
 
 -- where some element passes, there is one
