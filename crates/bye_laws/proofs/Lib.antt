@@ -47,3 +47,4 @@ pub mod DomainDepths
 pub mod StrongestThere
 pub mod StrongestAt
 pub mod StartsThere
+pub mod Searches
