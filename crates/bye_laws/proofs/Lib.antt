@@ -48,3 +48,4 @@ pub mod StrongestThere
 pub mod StrongestAt
 pub mod StartsThere
 pub mod Searches
+pub mod ClaimsDecided
