@@ -6,8 +6,8 @@ use Rattle.bye_terms.specs.Members.{In}
 use Rattle.bye_terms.specs.Terms.{Statement}
 use Rattle.bye_terms.proofs.Members.{all_from, all_in}
 use Rattle.bye_table.specs.Domains.{AreAlike, BindsEach, IsBelow, IsRowAt, IsSeen, IsWithin, Wanted}
-use Rattle.bye_table.specs.Mappings.{Binds, Exactly, Mapping, Name, merge}
-use Rattle.bye_table.proofs.Merging.{in_or_not, unbound}
+use Rattle.bye_table.specs.Mappings.{Binds, Exactly, Mapping, Name, first_of, merge}
+use Rattle.bye_table.proofs.Merging.{binds, in_or_not, unbound}
 use Rattle.bye_pattern.specs.declared.cond.Cond.{Cond}
 use Rattle.bye_pattern.specs.declared.level.Level.{Level}
 use Rattle.bye_pattern.specs.Certificates.{BindsOne, ShowsAdmitted, ShowsDomains, ShowsExtension, ShowsFork, ShowsNoRoot, ShowsUncovered}
@@ -194,3 +194,129 @@ admitted_or_not level g rows unwanted header vs inside some exact j =
 -- without a claim of domains and with a root the one domain is that of the seen variables
 pub one_domain_seen : (g : List Statement) (w : Wanted) (unwanted : List Mapping) (x : Name) → AreExamples w → NoDomains w.rows → BindsEach w.rows x → AllByRecursion (Exactly (seen_list w.rows w.vars).0) w.rows
 one_domain_seen g w unwanted x examples never bound = (has_one_domain w examples x bound (one_domain g w.rows unwanted never)).exact
+
+-- a row lacks x and binds each variable of a greater domain, of which there is one
+record IsOpenAt (rows : List Mapping) (m : Mapping) (x : Name) : Type 0 where
+  lacks : Binds m x → ⊥
+  around : (y : Name) → IsSeen rows y → IsBelow rows x y → Binds m y
+  some_around : (y : Name) × IsSeen rows y × IsBelow rows x y
+
+-- it is so or is not
+open_or_not : (w : Wanted) → AreExamples w → (m : Mapping) (x : Name) → IsOpenAt w.rows m x ⊎ (IsOpenAt w.rows m x → ⊥)
+open_or_not w examples m x =
+    same_decided
+    (λ h. record { lacks = h.0; around = h.1.0; some_around = (h.1.1.0, h.1.1.1.0, h.1.1.1.1) })
+    (λ o. (o.lacks, (o.around, (o.some_around.0, (o.some_around.1, o.some_around.2)))))
+    (both_or_not (not_or_not (binds_or_not m x)) (both_or_not
+    (every_or_not (λ y. IsSeen w.rows y → IsBelow w.rows x y → Binds m y)
+        (λ y. implied_or_not (seen_or_not w.rows y) (implied_or_not (below_or_not w.rows x y) (binds_or_not m y)))
+        w.vars
+        (λ y never. ⊎_elim (λ seen. examples.within y seen) (λ n. absurd (never (λ seen. absurd (n seen)))) (seen_or_not w.rows y)))
+    (some_or_not (λ y. IsSeen w.rows y × IsBelow w.rows x y) (λ y. both_or_not (seen_or_not w.rows y) (below_or_not w.rows x y)) w.vars (λ y h. examples.within y h.0))))
+
+-- the row with these values meets whatever is common at x
+abbrev IsMetAt : Level → List Statement → List Mapping → Name → Mapping → Mapping → Type 0
+IsMetAt level g rows x m e = ((p : Pattern) → IsCommonAt g rows x p → Meets g (merge m e) p) × ((c : Cond) → IsCommonCondAt level rows x c → MeetsCond (merge m e) c)
+
+-- it does or does not
+met_at_or_not : (level : Level) (g : List Statement) (w : Wanted) (x : Name) (m e : Mapping) → AreExamples w → IsSeen w.rows x → IsMetAt level g w.rows x m e ⊎ (IsMetAt level g w.rows x m e → ⊥)
+met_at_or_not level g w x m e examples seen =
+    both_or_not
+    (every_or_not (λ p. IsCommonAt g w.rows x p → Meets g (merge m e) p)
+        (λ p. implied_or_not (common_at_or_not g w.rows x p) (meets_or_not g (merge m e) p))
+        (flat_map (shapes w.vars) g)
+        (λ p never. ⊎_elim (λ common. common_shape g w x p examples seen common) (λ n. absurd (never (λ common. absurd (n common)))) (common_at_or_not g w.rows x p)))
+    (every_or_not (λ c. IsCommonCondAt level w.rows x c → MeetsCond (merge m e) c)
+        (λ c. implied_or_not (cond_at_or_not level w.rows x c) (met_or_not (merge m e) c))
+        (cond_shapes w.vars seen.0)
+        (λ c never. ⊎_elim (λ common. common_cond_shape level w x c examples seen common) (λ n. absurd (never (λ common. absurd (n common)))) (cond_at_or_not level w.rows x c)))
+
+-- the values bind exactly the class of x
+abbrev BindsClass : List Mapping → Name → Mapping → Type 0
+BindsClass rows x e = (v : Name) → (Binds e v → AreAlike rows x v) × (AreAlike rows x v → Binds e v)
+
+-- where no variable is uncovered, the values with which all that is common is met are terms of the graph
+value_told : (level : Level) (g : List Statement) (w : Wanted) (x : Name) (m e : Mapping) → AreExamples w → NoneUncovered g w.rows → IsSeen w.rows x → In w.rows m → (Binds m x → ⊥) → BindsClass w.rows x e
+    → IsMetAt level g w.rows x m e → (v : Name) (t : Term) → e v ≡ Some t → In (graph_terms g) t
+value_told level g w x m e examples covered seen row lacks class met v t is =
+    let alike = (class v).0 (binds (e v) t is) in
+    ⊎_elim
+    (λ h. met_term g (merge m e) h.0 v t (met.0 h.0 (lower g w.rows x v h.0 alike.0 h.1)) h.2
+        (ap (λ o. first_of o (e v)) (unbound (m v) (λ b. lacks (within_row w.rows m v x row alike.1 b))) ∙ is))
+    (λ c. absurd (covered v c))
+    (covered_or_not g w v examples (seen_up w.rows x v seen alike.0))
+
+-- so some values extend a row or none do
+values_extend_or_none : (level : Level) (g : List Statement) (w : Wanted) (x : Name) (m : Mapping) → AreExamples w → NoneUncovered g w.rows → IsSeen w.rows x → In w.rows m → (Binds m x → ⊥)
+    → ((e : Mapping) × BindsClass w.rows x e × IsMetAt level g w.rows x m e) ⊎ ((e : Mapping) → BindsClass w.rows x e → IsMetAt level g w.rows x m e → ⊥)
+values_extend_or_none level g w x m examples covered seen row lacks =
+    let class = picked (AreAlike w.rows x) (alike_or_not w.rows x) w.vars in
+    ⊎_elim
+    (λ h. inl (
+      h.0,
+      (λ v. ((λ b. ((class.1 v).0 ((h.1 v).0 b)).1), (λ alike. (h.1 v).1 ((class.1 v).1 (examples.within v (seen_up w.rows x v seen alike.0), alike))))),
+      h.2,
+    ))
+    (λ none. inr (λ e binds met. none e
+        (λ v. ((λ b. let alike = (binds v).0 b in (class.1 v).1 (examples.within v (seen_up w.rows x v seen alike.0), alike)), (λ h. (binds v).1 ((class.1 v).0 h).1)))
+        (value_told level g w x m e examples covered seen row lacks binds met)
+        met))
+    (mapping_or_none class.0 (graph_terms g) (IsMetAt level g w.rows x m) (λ e. met_at_or_not level g w x m e examples seen))
+
+-- what an extension says of the row of its number
+extended_row : (level : Level) (g : List Statement) (rows : List Mapping) (i : ℕ) (x : Name) (e m : Mapping) → IsRowAt rows i m → ShowsExtension level g rows i x e → IsOpenAt rows m x × IsMetAt level g rows x m e
+extended_row level g rows i x e m at c =
+    subst (λ m. IsOpenAt rows m x × IsMetAt level g rows x m e) (one_at rows i c.row m c.row_at at)
+    (record { lacks = c.lacks; around = c.around; some_around = c.some_around }, (c.triples, c.conditions))
+
+-- where no variable is uncovered, some values extend the row of a number at x or none do
+pub extendable_or_not : (level : Level) (g : List Statement) (w : Wanted) (i : ℕ) (x : Name) → AreExamples w → NoneUncovered g w.rows → IsExtendable level g w.rows i x ⊎ (IsExtendable level g w.rows i x → ⊥)
+extendable_or_not level g w i x examples covered =
+    ⊎_elim
+    (λ seen. ⊎_elim
+    (λ r. ⊎_elim
+    (λ o. ⊎_elim
+    (λ h. inl (h.0, record {
+      seen = seen;
+      row = r.0;
+      row_at = r.1;
+      lacks = o.lacks;
+      around = o.around;
+      some_around = o.some_around;
+      binds = h.1;
+      triples = h.2.0;
+      conditions = h.2.1;
+    }))
+    (λ none. inr (λ c. none c.0 c.1.binds (extended_row level g w.rows i x c.0 r.0 r.1 c.1).1))
+    (values_extend_or_none level g w x r.0 examples covered seen (at_in w.rows i r.0 r.1) o.lacks))
+    (λ shut. inr (λ c. shut (extended_row level g w.rows i x c.0 r.0 r.1 c.1).0))
+    (open_or_not w examples r.0 x))
+    (λ none. inr (λ c. none c.1.row c.1.row_at))
+    (row_or_none w.rows i))
+    (λ n. inr (λ c. n c.1.seen))
+    (seen_or_not w.rows x)
+
+-- what is common at a greater domain is common at a smaller one, of conditions too
+lower_condition : (level : Level) (rows : List Mapping) (x v : Name) (c : Cond) → IsWithin rows x v → IsCommonCondAt level rows v c → IsCommonCondAt level rows x c
+lower_condition level rows x v c up common = record {
+  in_class = common.in_class;
+  over = λ w h. within_trans rows x v w up (common.over w h);
+  holds = all_from (λ m. Binds m x → MeetsCond m c) rows (λ m row b. all_in (λ m. Binds m v → MeetsCond m c) rows m common.holds row (within_row rows m x v row up b));
+}
+
+-- values that extend a row at a variable extend it at each of its class
+pub extension_alike : (level : Level) (g : List Statement) (rows : List Mapping) (i : ℕ) (x y : Name) (e : Mapping) → AreAlike rows x y → ShowsExtension level g rows i x e → ShowsExtension level g rows i y e
+extension_alike level g rows i x y e alike c = record {
+  seen = seen_up rows x y c.seen alike.0;
+  row = c.row;
+  row_at = c.row_at;
+  lacks = λ b. c.lacks (within_row rows c.row y x (at_in rows i c.row c.row_at) alike.1 b);
+  around = λ z seen below. c.around z seen (within_below rows x y z alike.0 below);
+  some_around = (c.some_around.0, c.some_around.1, within_below rows y x c.some_around.0 alike.1 c.some_around.2);
+  binds = λ v. (
+    (λ b. alike_trans rows y x v (alike.1, alike.0) ((c.binds v).0 b)),
+    (λ h. (c.binds v).1 (alike_trans rows x y v alike h)),
+  );
+  triples = λ p common. c.triples p (lower g rows x y p alike.0 common);
+  conditions = λ d common. c.conditions d (lower_condition level rows x y d alike.0 common);
+}
