@@ -49,3 +49,4 @@ pub mod StrongestAt
 pub mod StartsThere
 pub mod Searches
 pub mod ClaimsDecided
+pub mod FirstClaims
