@@ -159,3 +159,80 @@ first_or_none_shows Optional level g w unwanted header examples inside =
     (first_fork w examples))
     (λ root. inl (NoRoot, root))
     (root_or_not w examples)
+
+-- of one class and level the first claim is one, but for the values of an extension: what is first or least is one, and of two kinds one excludes the other
+one_claim : (class : Class) (level : Level) (g : List Statement) (w : Wanted) (unwanted : List Mapping) (claim other : Claim) → IsFirstClaim class level g w unwanted claim → IsFirstClaim class level g w unwanted other
+    → IsOneClaim claim other
+one_claim And level g w unwanted (Domains i j x) (Domains k l v) a b =
+    let e : j ≡ l = one_least (λ k. (y : Name) × ShowsDomains w.rows 1 k y) j l a.1 b.1 in
+    let f : x ≡ v = one_first_with (ShowsDomains w.rows 1 j) w.vars x v a.2 (subst (λ l. IsFirstWith (ShowsDomains w.rows 1 l) w.vars v) (sym e) b.2) in
+    let d : i ≡ k = a.0 ∙ sym b.0 in
+    λ t. Domains (d t) (e t) (f t)
+one_claim And level g w unwanted (Domains i j x) NoRoot a b = absurd (b.0 1 j x (first_has (ShowsDomains w.rows 1 j) w.vars x a.2).1)
+one_claim And level g w unwanted (Domains i j x) (Uncovered v) a b = absurd (b.0 1 j x (first_has (ShowsDomains w.rows 1 j) w.vars x a.2).1)
+one_claim And level g w unwanted (Domains i j x) (Admitted l) a b = absurd (b.0 1 j x (first_has (ShowsDomains w.rows 1 j) w.vars x a.2).1)
+one_claim And level g w unwanted NoRoot (Domains k l v) a b = absurd (a.0 1 l v (first_has (ShowsDomains w.rows 1 l) w.vars v b.2).1)
+one_claim And level g w unwanted (Uncovered x) (Domains k l v) a b = absurd (a.0 1 l v (first_has (ShowsDomains w.rows 1 l) w.vars v b.2).1)
+one_claim And level g w unwanted (Admitted j) (Domains k l v) a b = absurd (a.0 1 l v (first_has (ShowsDomains w.rows 1 l) w.vars v b.2).1)
+one_claim And level g w unwanted NoRoot NoRoot a b = refl
+one_claim And level g w unwanted NoRoot (Uncovered v) a b = absurd (b.1 a.1)
+one_claim And level g w unwanted NoRoot (Admitted l) a b = absurd (b.1 a.1)
+one_claim And level g w unwanted (Uncovered x) NoRoot a b = absurd (a.1 b.1)
+one_claim And level g w unwanted (Admitted j) NoRoot a b = absurd (a.1 b.1)
+one_claim And level g w unwanted (Uncovered x) (Uncovered v) a b = ap Uncovered (one_first_with (ShowsUncovered g w.rows) w.vars x v a.2 b.2)
+one_claim And level g w unwanted (Uncovered x) (Admitted l) a b = absurd (b.2 x (first_has (ShowsUncovered g w.rows) w.vars x a.2).1)
+one_claim And level g w unwanted (Admitted j) (Uncovered v) a b = absurd (a.2 v (first_has (ShowsUncovered g w.rows) w.vars v b.2).1)
+one_claim And level g w unwanted (Admitted j) (Admitted l) a b = ap Admitted (one_least (ShowsAdmitted level g w.rows unwanted) j l a.3 b.3)
+one_claim And level g w unwanted (Fork x y z) other a b = absurd a
+one_claim And level g w unwanted (Extension i x values) other a b = absurd a
+one_claim And level g w unwanted (Domains i j x) (Fork u v s) a b = absurd b
+one_claim And level g w unwanted (Domains i j x) (Extension k v others) a b = absurd b
+one_claim And level g w unwanted NoRoot (Fork u v s) a b = absurd b
+one_claim And level g w unwanted NoRoot (Extension k v others) a b = absurd b
+one_claim And level g w unwanted (Uncovered x) (Fork u v s) a b = absurd b
+one_claim And level g w unwanted (Uncovered x) (Extension k v others) a b = absurd b
+one_claim And level g w unwanted (Admitted j) (Fork u v s) a b = absurd b
+one_claim And level g w unwanted (Admitted j) (Extension k v others) a b = absurd b
+one_claim Optional level g w unwanted (Domains i j x) other a b = absurd a
+one_claim Optional level g w unwanted (Admitted j) other a b = absurd a
+one_claim Optional level g w unwanted NoRoot NoRoot a b = refl
+one_claim Optional level g w unwanted NoRoot (Fork u v s) a b = absurd (b.0 a)
+one_claim Optional level g w unwanted NoRoot (Uncovered v) a b = absurd (b.0 a)
+one_claim Optional level g w unwanted NoRoot (Extension k v others) a b = absurd (b.0 a)
+one_claim Optional level g w unwanted (Fork x y z) NoRoot a b = absurd (a.0 b)
+one_claim Optional level g w unwanted (Uncovered x) NoRoot a b = absurd (a.0 b)
+one_claim Optional level g w unwanted (Extension i x values) NoRoot a b = absurd (a.0 b)
+one_claim Optional level g w unwanted (Fork x y z) (Fork u v s) a b =
+    let d : x ≡ u = one_first_with (λ a. (b : Name) × (c : Name) × ShowsFork w.rows a b c) w.vars x u a.1 b.1 in
+    let e : y ≡ v = one_first_with (λ b. (c : Name) × ShowsFork w.rows x b c) w.vars y v a.2 (subst (λ u. IsFirstWith (λ b. (c : Name) × ShowsFork w.rows u b c) w.vars v) (sym d) b.2) in
+    let f : z ≡ s = one_first_with (ShowsFork w.rows x y) w.vars z s a.3 (subst (λ y. IsFirstWith (ShowsFork w.rows x y) w.vars s) (sym e) (subst (λ x. IsFirstWith (ShowsFork w.rows x v) w.vars s) (sym d) b.3)) in
+    λ t. Fork (d t) (e t) (f t)
+one_claim Optional level g w unwanted (Fork x y z) (Uncovered v) a b = absurd (b.1 x y z (first_has (ShowsFork w.rows x y) w.vars z a.3).1)
+one_claim Optional level g w unwanted (Fork x y z) (Extension k v others) a b = absurd (b.1 x y z (first_has (ShowsFork w.rows x y) w.vars z a.3).1)
+one_claim Optional level g w unwanted (Uncovered x) (Fork u v s) a b = absurd (a.1 u v s (first_has (ShowsFork w.rows u v) w.vars s b.3).1)
+one_claim Optional level g w unwanted (Extension i x values) (Fork u v s) a b = absurd (a.1 u v s (first_has (ShowsFork w.rows u v) w.vars s b.3).1)
+one_claim Optional level g w unwanted (Uncovered x) (Uncovered v) a b = ap Uncovered (one_first_with (ShowsUncovered g w.rows) w.vars x v a.2 b.2)
+one_claim Optional level g w unwanted (Uncovered x) (Extension k v others) a b = absurd (b.2 x (first_has (ShowsUncovered g w.rows) w.vars x a.2).1)
+one_claim Optional level g w unwanted (Extension i x values) (Uncovered v) a b = absurd (a.2 v (first_has (ShowsUncovered g w.rows) w.vars v b.2).1)
+one_claim Optional level g w unwanted (Extension i x values) (Extension k v others) a b =
+    let e : i ≡ k = one_least (λ k. (y : Name) × IsExtendable level g w.rows k y) i k a.3 b.3 in
+    let f : x ≡ v = one_first_with (λ y. IsFirstOfClass w y × IsExtendable level g w.rows i y) w.vars x v a.4
+        (subst (λ k. IsFirstWith (λ y. IsFirstOfClass w y × IsExtendable level g w.rows k y) w.vars v) (sym e) b.4) in
+    (e, f)
+one_claim Optional level g w unwanted NoRoot (Domains k l v) a b = absurd b
+one_claim Optional level g w unwanted NoRoot (Admitted l) a b = absurd b
+one_claim Optional level g w unwanted (Fork x y z) (Domains k l v) a b = absurd b
+one_claim Optional level g w unwanted (Fork x y z) (Admitted l) a b = absurd b
+one_claim Optional level g w unwanted (Uncovered x) (Domains k l v) a b = absurd b
+one_claim Optional level g w unwanted (Uncovered x) (Admitted l) a b = absurd b
+one_claim Optional level g w unwanted (Extension i x values) (Domains k l v) a b = absurd b
+one_claim Optional level g w unwanted (Extension i x values) (Admitted l) a b = absurd b
+
+-- what is told of first claims
+pub first_claims_told : FirstClaims
+first_claims_told = record {
+  shows = λ class level g w unwanted claim examples h. let s = first_shows class level g w unwanted claim h in record { goes = s.0; shown = s.1 };
+  there = λ g w unwanted header c examples inside shows.
+      ⊎_elim (λ first. first) (λ none. absurd (none c.claim shows.goes shows.shown)) (first_or_none_shows c.class c.level g w unwanted header examples inside);
+  one = λ class level g w unwanted claim other examples a b. one_claim class level g w unwanted claim other a b;
+}

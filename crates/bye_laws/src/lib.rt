@@ -17,6 +17,7 @@ ghost use Rattle.bye_laws.specs.Ordering.{OnePattern, SortedListsAreOneAndThere}
 ghost use Rattle.bye_laws.specs.DomainNodes.{DomainNodesAreTold, DomainTreesByDepth};
 ghost use Rattle.bye_laws.specs.Strongest.{StrongestNodes};
 ghost use Rattle.bye_laws.specs.Beginning.{StartsAreThereAndOne};
+ghost use Rattle.bye_laws.specs.Claiming.{FirstClaims};
 
 /// A row of a well-designed tree is told by the nodes that it reaches (SPARQL 1.1 Query, section 18.5).
 pub fn rows_by_reaching()
@@ -151,4 +152,9 @@ pub fn strongest_nodes()
 /// Each class has one start, exactly where no claim shows about which rows bind which variables.
 pub fn starts_are_there_and_one()
     ensures { StartsAreThereAndOne }
+{}
+
+/// The first claim of a class shows, is there where any claim of the class shows, and is one but for the values of an extension.
+pub fn first_claims()
+    ensures { FirstClaims }
 {}
