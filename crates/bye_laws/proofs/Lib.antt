@@ -50,3 +50,4 @@ pub mod StartsThere
 pub mod Searches
 pub mod ClaimsDecided
 pub mod FirstClaims
+pub mod FoundValues
