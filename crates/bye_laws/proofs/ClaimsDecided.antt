@@ -1,5 +1,5 @@
 -- It is decided of each claim whether it shows, where those of its class that come before it do not.
-use Rattle.std.proofs.Common.{◌≡◌, refl, ℕ, zero, suc, ◌<◌, List, [], ◌∷◌, Option, Some, None, ◌⊎◌, inl, inr, ⊎_elim, sym, ◌∙◌, ap, subst, ◌↔◌, arith}
+use Rattle.std.proofs.Common.{◌≡◌, refl, ℕ, zero, suc, ◌<◌, List, [], ◌∷◌, Some, ◌⊎◌, inl, inr, ⊎_elim, sym, ◌∙◌, ap, subst, arith}
 use Rattle.std.specs.List.{AllByRecursion, flat_map}
 use Rattle.bye_terms.specs.declared.term.Term.{Term}
 use Rattle.bye_terms.specs.Members.{In}
@@ -23,7 +23,7 @@ use Rattle.bye_laws.proofs.CommonConditions.{lower}
 use Rattle.bye_laws.proofs.ConjunctionStarts.{has_one_domain, one_domain}
 use Rattle.bye_laws.proofs.Decided.{all_or_not, both_or_not, each_or_not, either_or_not, meets_or_not, met_or_not, one_or_none, picked, same_decided}
 use Rattle.bye_laws.proofs.DomainTrees.{some_each}
-use Rattle.bye_laws.proofs.Examples.{at_in, either_less, one_at, seen_in, seen_list, some_row}
+use Rattle.bye_laws.proofs.Examples.{at_in, either_less, one_at, seen_list, some_row}
 use Rattle.bye_laws.proofs.Searches.{every_or_not, exactly_or_not, graph_terms, implied_or_not, less_or_not, mapping_or_none, met_term, not_or_not, row_is_or_not, row_or_none, some_or_not}
 use Rattle.bye_laws.proofs.StrongestThere.{class_or_not, common_cond_or_not, common_or_not, triple_or_not}
 use Rattle.bye_laws.proofs.Withins.{alike_or_not, alike_trans, below_or_not, binds_or_not, each_seen, seen_or_not, seen_up, within_below, within_or_not, within_row, within_trans}
@@ -125,7 +125,8 @@ common_cond_shape level w x c examples seen common =
     (all_in (λ m. Binds m x → MeetsCond m c) w.rows seen.0 common.holds seen.1 seen.2).1
 
 -- a seen variable is in a common pattern, or it is uncovered
-pub covered_or_not : (g : List Statement) (w : Wanted) (x : Name) → AreExamples w → IsSeen w.rows x → ((p : Pattern) × IsCommonAt g w.rows x p × In (vars p) x) ⊎ ShowsUncovered g w.rows x
+pub covered_or_not : (g : List Statement) (w : Wanted) (x : Name) → AreExamples w → IsSeen w.rows x
+    → ((p : Pattern) × IsCommonAt g w.rows x p × In (vars p) x) ⊎ ShowsUncovered g w.rows x
 covered_or_not g w x examples seen =
     ⊎_elim
     (λ h. inl (h.0, h.2.0, h.2.1))
@@ -141,7 +142,8 @@ uncovered_or_not g w x examples =
     (seen_or_not w.rows x)
 
 -- the unwanted row meets whatever the wanted rows have in common over these variables, or does not
-meets_common_or_not : (g : List Statement) (vs : List Name) (rows : List Mapping) (m : Mapping) → (rows ≡ [] → ⊥) → ((p : Pattern) → IsCommon g vs rows p → Meets g m p) ⊎ (((p : Pattern) → IsCommon g vs rows p → Meets g m p) → ⊥)
+meets_common_or_not : (g : List Statement) (vs : List Name) (rows : List Mapping) (m : Mapping) → (rows ≡ [] → ⊥)
+    → ((p : Pattern) → IsCommon g vs rows p → Meets g m p) ⊎ (((p : Pattern) → IsCommon g vs rows p → Meets g m p) → ⊥)
 meets_common_or_not g vs rows m some =
     let row = some_row rows some in
     every_or_not (λ p. IsCommon g vs rows p → Meets g m p) (λ p. implied_or_not (common_or_not g vs rows p) (meets_or_not g m p)) (flat_map (shapes vs) g) (λ p never. ⊎_elim
@@ -150,7 +152,8 @@ meets_common_or_not g vs rows m some =
     (common_or_not g vs rows p))
 
 -- of triples and of conditions
-meets_conds_or_not : (level : Level) (vs : List Name) (rows : List Mapping) (m : Mapping) → (rows ≡ [] → ⊥) → ((c : Cond) → IsCommonCond level vs rows c → MeetsCond m c) ⊎ (((c : Cond) → IsCommonCond level vs rows c → MeetsCond m c) → ⊥)
+meets_conds_or_not : (level : Level) (vs : List Name) (rows : List Mapping) (m : Mapping) → (rows ≡ [] → ⊥)
+    → ((c : Cond) → IsCommonCond level vs rows c → MeetsCond m c) ⊎ (((c : Cond) → IsCommonCond level vs rows c → MeetsCond m c) → ⊥)
 meets_conds_or_not level vs rows m some =
     let row = some_row rows some in
     every_or_not (λ c. IsCommonCond level vs rows c → MeetsCond m c) (λ c. implied_or_not (common_cond_or_not level vs rows c) (met_or_not m c)) (cond_shapes vs row.0) (λ c never. ⊎_elim
@@ -163,15 +166,16 @@ abbrev IsAdmittedOver : Level → List Statement → List Name → List Mapping 
 IsAdmittedOver level g vs rows m = Exactly vs m × (((p : Pattern) → IsCommon g vs rows p → Meets g m p) × ((c : Cond) → IsCommonCond level vs rows c → MeetsCond m c))
 
 -- over the one domain an unwanted row is admitted or is not
-pub admitted_or_not : (level : Level) (g : List Statement) (rows unwanted : List Mapping) (header vs : List Name) → ((v : Name) → IsSeen unwanted v → In header v) → (rows ≡ [] → ⊥) → AllByRecursion (Exactly vs) rows → (j : ℕ)
+pub admitted_or_not : (level : Level) (g : List Statement) (rows unwanted : List Mapping) (header vs : List Name) → ((v : Name) → IsSeen unwanted v → In header v)
+    → (rows ≡ [] → ⊥) → AllByRecursion (Exactly vs) rows → (j : ℕ)
     → ShowsAdmitted level g rows unwanted j ⊎ (ShowsAdmitted level g rows unwanted j → ⊥)
 admitted_or_not level g rows unwanted header vs inside some exact j =
     same_decided
     (λ h. record { domain = vs; same = exact; row = h.0; row_at = h.1; of_row = h.2.0; triples = h.2.1.0; conditions = h.2.1.1 })
     to_row
     (row_is_or_not unwanted j (IsAdmittedOver level g vs rows) (λ m at.
-        both_or_not (exactly_or_not header vs m (λ v b. inside v (m, at_in unwanted j m at, b)))
-        (both_or_not (meets_common_or_not g vs rows m some) (meets_conds_or_not level vs rows m some))))
+    both_or_not (exactly_or_not header vs m (λ v b. inside v (m, at_in unwanted j m at, b)))
+    (both_or_not (meets_common_or_not g vs rows m some) (meets_conds_or_not level vs rows m some))))
   where
     to_row : ShowsAdmitted level g rows unwanted j → (m : Mapping) × IsRowAt unwanted j m × IsAdmittedOver level g vs rows m
     to_row c =
@@ -192,8 +196,8 @@ admitted_or_not level g rows unwanted header vs inside some exact j =
         )
 
 -- without a claim of domains and with a root the one domain is that of the seen variables
-pub one_domain_seen : (g : List Statement) (w : Wanted) (unwanted : List Mapping) (x : Name) → AreExamples w → NoDomains w.rows → BindsEach w.rows x → AllByRecursion (Exactly (seen_list w.rows w.vars).0) w.rows
-one_domain_seen g w unwanted x examples never bound = (has_one_domain w examples x bound (one_domain g w.rows unwanted never)).exact
+pub one_domain_seen : (w : Wanted) (x : Name) → AreExamples w → NoDomains w.rows → BindsEach w.rows x → AllByRecursion (Exactly (seen_list w.rows w.vars).0) w.rows
+one_domain_seen w x examples never bound = (has_one_domain w examples x bound (one_domain [] w.rows [] never)).exact
 
 -- a row lacks x and binds each variable of a greater domain, of which there is one
 record IsOpenAt (rows : List Mapping) (m : Mapping) (x : Name) : Type 0 where
@@ -209,9 +213,9 @@ open_or_not w examples m x =
     (λ o. (o.lacks, (o.around, (o.some_around.0, (o.some_around.1, o.some_around.2)))))
     (both_or_not (not_or_not (binds_or_not m x)) (both_or_not
     (every_or_not (λ y. IsSeen w.rows y → IsBelow w.rows x y → Binds m y)
-        (λ y. implied_or_not (seen_or_not w.rows y) (implied_or_not (below_or_not w.rows x y) (binds_or_not m y)))
-        w.vars
-        (λ y never. ⊎_elim (λ seen. examples.within y seen) (λ n. absurd (never (λ seen. absurd (n seen)))) (seen_or_not w.rows y)))
+    (λ y. implied_or_not (seen_or_not w.rows y) (implied_or_not (below_or_not w.rows x y) (binds_or_not m y)))
+    w.vars
+    (λ y never. ⊎_elim (λ seen. examples.within y seen) (λ n. absurd (never (λ seen. absurd (n seen)))) (seen_or_not w.rows y)))
     (some_or_not (λ y. IsSeen w.rows y × IsBelow w.rows x y) (λ y. both_or_not (seen_or_not w.rows y) (below_or_not w.rows x y)) w.vars (λ y h. examples.within y h.0))))
 
 -- the row with these values meets whatever is common at x
@@ -219,35 +223,38 @@ abbrev IsMetAt : Level → List Statement → List Mapping → Name → Mapping 
 IsMetAt level g rows x m e = ((p : Pattern) → IsCommonAt g rows x p → Meets g (merge m e) p) × ((c : Cond) → IsCommonCondAt level rows x c → MeetsCond (merge m e) c)
 
 -- it does or does not
-met_at_or_not : (level : Level) (g : List Statement) (w : Wanted) (x : Name) (m e : Mapping) → AreExamples w → IsSeen w.rows x → IsMetAt level g w.rows x m e ⊎ (IsMetAt level g w.rows x m e → ⊥)
+met_at_or_not : (level : Level) (g : List Statement) (w : Wanted) (x : Name) (m e : Mapping) → AreExamples w → IsSeen w.rows x
+    → IsMetAt level g w.rows x m e ⊎ (IsMetAt level g w.rows x m e → ⊥)
 met_at_or_not level g w x m e examples seen =
     both_or_not
     (every_or_not (λ p. IsCommonAt g w.rows x p → Meets g (merge m e) p)
-        (λ p. implied_or_not (common_at_or_not g w.rows x p) (meets_or_not g (merge m e) p))
-        (flat_map (shapes w.vars) g)
-        (λ p never. ⊎_elim (λ common. common_shape g w x p examples seen common) (λ n. absurd (never (λ common. absurd (n common)))) (common_at_or_not g w.rows x p)))
+    (λ p. implied_or_not (common_at_or_not g w.rows x p) (meets_or_not g (merge m e) p))
+    (flat_map (shapes w.vars) g)
+    (λ p never. ⊎_elim (λ common. common_shape g w x p examples seen common) (λ n. absurd (never (λ common. absurd (n common)))) (common_at_or_not g w.rows x p)))
     (every_or_not (λ c. IsCommonCondAt level w.rows x c → MeetsCond (merge m e) c)
-        (λ c. implied_or_not (cond_at_or_not level w.rows x c) (met_or_not (merge m e) c))
-        (cond_shapes w.vars seen.0)
-        (λ c never. ⊎_elim (λ common. common_cond_shape level w x c examples seen common) (λ n. absurd (never (λ common. absurd (n common)))) (cond_at_or_not level w.rows x c)))
+    (λ c. implied_or_not (cond_at_or_not level w.rows x c) (met_or_not (merge m e) c))
+    (cond_shapes w.vars seen.0)
+    (λ c never. ⊎_elim (λ common. common_cond_shape level w x c examples seen common) (λ n. absurd (never (λ common. absurd (n common)))) (cond_at_or_not level w.rows x c)))
 
 -- the values bind exactly the class of x
 abbrev BindsClass : List Mapping → Name → Mapping → Type 0
 BindsClass rows x e = (v : Name) → (Binds e v → AreAlike rows x v) × (AreAlike rows x v → Binds e v)
 
 -- where no variable is uncovered, the values with which all that is common is met are terms of the graph
-value_told : (level : Level) (g : List Statement) (w : Wanted) (x : Name) (m e : Mapping) → AreExamples w → NoneUncovered g w.rows → IsSeen w.rows x → In w.rows m → (Binds m x → ⊥) → BindsClass w.rows x e
+value_told : (level : Level) (g : List Statement) (w : Wanted) (x : Name) (m e : Mapping) → AreExamples w → NoneUncovered g w.rows → IsSeen w.rows x → In w.rows m
+    → (Binds m x → ⊥) → BindsClass w.rows x e
     → IsMetAt level g w.rows x m e → (v : Name) (t : Term) → e v ≡ Some t → In (graph_terms g) t
 value_told level g w x m e examples covered seen row lacks class met v t is =
     let alike = (class v).0 (binds (e v) t is) in
     ⊎_elim
     (λ h. met_term g (merge m e) h.0 v t (met.0 h.0 (lower g w.rows x v h.0 alike.0 h.1)) h.2
-        (ap (λ o. first_of o (e v)) (unbound (m v) (λ b. lacks (within_row w.rows m v x row alike.1 b))) ∙ is))
+    (ap (λ o. first_of o (e v)) (unbound (m v) (λ b. lacks (within_row w.rows m v x row alike.1 b))) ∙ is))
     (λ c. absurd (covered v c))
     (covered_or_not g w v examples (seen_up w.rows x v seen alike.0))
 
 -- so some values extend a row or none do
-values_extend_or_none : (level : Level) (g : List Statement) (w : Wanted) (x : Name) (m : Mapping) → AreExamples w → NoneUncovered g w.rows → IsSeen w.rows x → In w.rows m → (Binds m x → ⊥)
+values_extend_or_none : (level : Level) (g : List Statement) (w : Wanted) (x : Name) (m : Mapping) → AreExamples w → NoneUncovered g w.rows → IsSeen w.rows x → In w.rows m
+    → (Binds m x → ⊥)
     → ((e : Mapping) × BindsClass w.rows x e × IsMetAt level g w.rows x m e) ⊎ ((e : Mapping) → BindsClass w.rows x e → IsMetAt level g w.rows x m e → ⊥)
 values_extend_or_none level g w x m examples covered seen row lacks =
     let class = picked (AreAlike w.rows x) (alike_or_not w.rows x) w.vars in
@@ -258,35 +265,40 @@ values_extend_or_none level g w x m examples covered seen row lacks =
       h.2,
     ))
     (λ none. inr (λ e binds met. none e
-        (λ v. ((λ b. let alike = (binds v).0 b in (class.1 v).1 (examples.within v (seen_up w.rows x v seen alike.0), alike)), (λ h. (binds v).1 ((class.1 v).0 h).1)))
-        (value_told level g w x m e examples covered seen row lacks binds met)
-        met))
+    (λ v. ((λ b. let alike = (binds v).0 b in (class.1 v).1 (examples.within v (seen_up w.rows x v seen alike.0), alike)), (λ h. (binds v).1 ((class.1 v).0 h).1)))
+    (value_told level g w x m e examples covered seen row lacks binds met)
+    met))
     (mapping_or_none class.0 (graph_terms g) (IsMetAt level g w.rows x m) (λ e. met_at_or_not level g w x m e examples seen))
 
 -- what an extension says of the row of its number
-extended_row : (level : Level) (g : List Statement) (rows : List Mapping) (i : ℕ) (x : Name) (e m : Mapping) → IsRowAt rows i m → ShowsExtension level g rows i x e → IsOpenAt rows m x × IsMetAt level g rows x m e
+extended_row : (level : Level) (g : List Statement) (rows : List Mapping) (i : ℕ) (x : Name) (e m : Mapping) → IsRowAt rows i m → ShowsExtension level g rows i x e
+    → IsOpenAt rows m x × IsMetAt level g rows x m e
 extended_row level g rows i x e m at c =
     subst (λ m. IsOpenAt rows m x × IsMetAt level g rows x m e) (one_at rows i c.row m c.row_at at)
     (record { lacks = c.lacks; around = c.around; some_around = c.some_around }, (c.triples, c.conditions))
 
 -- where no variable is uncovered, some values extend the row of a number at x or none do
-pub extendable_or_not : (level : Level) (g : List Statement) (w : Wanted) (i : ℕ) (x : Name) → AreExamples w → NoneUncovered g w.rows → IsExtendable level g w.rows i x ⊎ (IsExtendable level g w.rows i x → ⊥)
+pub extendable_or_not : (level : Level) (g : List Statement) (w : Wanted) (i : ℕ) (x : Name) → AreExamples w → NoneUncovered g w.rows
+    → IsExtendable level g w.rows i x ⊎ (IsExtendable level g w.rows i x → ⊥)
 extendable_or_not level g w i x examples covered =
     ⊎_elim
     (λ seen. ⊎_elim
     (λ r. ⊎_elim
     (λ o. ⊎_elim
-    (λ h. inl (h.0, record {
-      seen = seen;
-      row = r.0;
-      row_at = r.1;
-      lacks = o.lacks;
-      around = o.around;
-      some_around = o.some_around;
-      binds = h.1;
-      triples = h.2.0;
-      conditions = h.2.1;
-    }))
+    (λ h. inl (
+      h.0,
+      record {
+        seen = seen;
+        row = r.0;
+        row_at = r.1;
+        lacks = o.lacks;
+        around = o.around;
+        some_around = o.some_around;
+        binds = h.1;
+        triples = h.2.0;
+        conditions = h.2.1;
+      },
+    ))
     (λ none. inr (λ c. none c.0 c.1.binds (extended_row level g w.rows i x c.0 r.0 r.1 c.1).1))
     (values_extend_or_none level g w x r.0 examples covered seen (at_in w.rows i r.0 r.1) o.lacks))
     (λ shut. inr (λ c. shut (extended_row level g w.rows i x c.0 r.0 r.1 c.1).0))
@@ -305,7 +317,8 @@ lower_condition level rows x v c up common = record {
 }
 
 -- values that extend a row at a variable extend it at each of its class
-pub extension_alike : (level : Level) (g : List Statement) (rows : List Mapping) (i : ℕ) (x y : Name) (e : Mapping) → AreAlike rows x y → ShowsExtension level g rows i x e → ShowsExtension level g rows i y e
+pub extension_alike : (level : Level) (g : List Statement) (rows : List Mapping) (i : ℕ) (x y : Name) (e : Mapping) → AreAlike rows x y → ShowsExtension level g rows i x e
+    → ShowsExtension level g rows i y e
 extension_alike level g rows i x y e alike c = record {
   seen = seen_up rows x y c.seen alike.0;
   row = c.row;

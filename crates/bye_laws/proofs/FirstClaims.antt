@@ -1,24 +1,33 @@
 -- The first claim of a class shows, is there where any shows, and is one.
-use Rattle.std.proofs.Common.{◌≡◌, refl, ℕ, ◌<◌, List, [], ◌∷◌, Option, Some, None, ◌⊎◌, inl, inr, ⊎_elim, sym, ◌∙◌, ap, subst}
+use Rattle.std.proofs.Common.{◌≡◌, refl, ℕ, List, ◌⊎◌, inl, inr, ⊎_elim, sym, ◌∙◌, ap, subst}
 use Rattle.bye_terms.specs.Members.{In}
 use Rattle.bye_terms.specs.Terms.{Statement}
 use Rattle.bye_table.specs.Domains.{IsSeen, Wanted}
 use Rattle.bye_table.specs.DomainTrees.{IsFirstOfClass}
-use Rattle.bye_table.specs.Mappings.{Binds, Mapping, Name, NoRepeat, row_mapping}
+use Rattle.bye_table.specs.Mappings.{Mapping, Name, row_mapping}
 use Rattle.bye_pattern.specs.declared.class.Class.{Class}
 use Rattle.bye_pattern.specs.declared.class.Class.TheVariants.{And, Optional}
 use Rattle.bye_pattern.specs.declared.level.Level.{Level}
-use Rattle.bye_pattern.specs.Certificates.{
-  Admitted, CertificateValue, Claim, Domains, Extension, Fork, GoesWith, IsShown, NoRoot, Shows, ShowsAdmitted, ShowsDomains, ShowsExtension, ShowsFork, ShowsNoRoot, ShowsUncovered, Uncovered,
-}
+use Rattle.bye_pattern.specs.Certificates.{Admitted, Claim, Domains, Extension, Fork, GoesWith, IsShown, NoRoot, ShowsAdmitted, ShowsDomains, ShowsExtension, ShowsFork, ShowsNoRoot, ShowsUncovered, Uncovered}
 use Rattle.bye_laws.specs.Claiming.{FirstClaims, IsExtendable, IsFirstClaim, IsFirstWith, IsLeast, IsOneClaim, NoDomains, NoFork, NoneUncovered, listing}
 use Rattle.bye_laws.specs.Completeness.{AreExamples}
 use Rattle.bye_laws.proofs.ClaimsDecided.{
-  admitted_or_not, domains_by_first, domains_or_not, domains_seen, extendable_or_not, extension_alike, fork_at_or_not, fork_from_or_not, fork_or_not, one_domain_seen, root_or_not, uncovered_or_not,
+  admitted_or_not,
+  domains_by_first,
+  domains_or_not,
+  domains_seen,
+  extendable_or_not,
+  extension_alike,
+  fork_at_or_not,
+  fork_from_or_not,
+  fork_or_not,
+  one_domain_seen,
+  root_or_not,
+  uncovered_or_not,
 }
-use Rattle.bye_laws.proofs.Decided.{both_or_not, same_decided}
+use Rattle.bye_laws.proofs.Decided.{both_or_not}
 use Rattle.bye_laws.proofs.DomainTrees.{class_first, first_or_not}
-use Rattle.bye_laws.proofs.Examples.{seen_in, seen_list}
+use Rattle.bye_laws.proofs.Examples.{seen_list}
 use Rattle.bye_laws.proofs.Listings.{listed_once, listed_whole}
 use Rattle.bye_laws.proofs.Searches.{first_has, first_or_none, least_row_or_none, one_first_with, one_least, some_or_not}
 use Rattle.bye_laws.proofs.Withins.{seen_up}
@@ -51,14 +60,14 @@ first_domains w examples =
     (first_or_none (ShowsDomains w.rows 1 least.0) (domains_or_not w.rows 1 least.0) w.vars))
     (λ none. inr (domains_by_first w.rows (λ k x c. none k (x, c))))
     (least_row_or_none w.rows (λ k. (y : Name) × ShowsDomains w.rows 1 k y)
-        (λ k. some_or_not (ShowsDomains w.rows 1 k) (domains_or_not w.rows 1 k) w.vars (inside k))
-        (λ k c. (c.1.other, c.1.other_row)))
+    (λ k. some_or_not (ShowsDomains w.rows 1 k) (domains_or_not w.rows 1 k) w.vars (inside k))
+    (λ k c. (c.1.other, c.1.other_row)))
 
 -- the first fork, or there is none
 first_fork : (w : Wanted) → AreExamples w
     → ((x : Name) × (y : Name) × (z : Name)
-      × (IsFirstWith (λ a. (b : Name) × (c : Name) × ShowsFork w.rows a b c) w.vars x × (IsFirstWith (λ b. (c : Name) × ShowsFork w.rows x b c) w.vars y × IsFirstWith (ShowsFork w.rows x y) w.vars z)))
-      ⊎ NoFork w.rows
+    × (IsFirstWith (λ a. (b : Name) × (c : Name) × ShowsFork w.rows a b c) w.vars x × (IsFirstWith (λ b. (c : Name) × ShowsFork w.rows x b c) w.vars y × IsFirstWith (ShowsFork w.rows x y) w.vars z)))
+    ⊎ NoFork w.rows
 first_fork w examples =
     ⊎_elim
     (λ first. let c = (first_has (λ a. (b : Name) × (c : Name) × ShowsFork w.rows a b c) w.vars first.0 first.1).1 in
@@ -89,26 +98,30 @@ first_extension level g w unwanted examples root fork covered =
     (λ first. let x : Name = first.0 in
     let c = (first_has (λ y. IsFirstOfClass w y × IsExtendable level g w.rows i y) w.vars x first.1).1.1 in
     let same : row_mapping (listing w.vars c.0) ≡ c.0 = listed_whole w.vars c.0 (λ v b. examples.within v (seen_up w.rows x v c.1.seen ((c.1.binds v).0 b).0)) in
-    inl (Extension i x (listing w.vars c.0), (
-      root,
-      fork,
-      covered,
-      least.1,
-      first.1,
-      (listed_once w.vars c.0 examples.once, subst (ShowsExtension level g w.rows i x) (sym same) c.1),
-      ap (listing w.vars) same,
-    )))
+    inl (
+      Extension i x (listing w.vars c.0),
+      (
+        root,
+        fork,
+        covered,
+        least.1,
+        first.1,
+        (listed_once w.vars c.0 examples.once, subst (ShowsExtension level g w.rows i x) (sym same) c.1),
+        ap (listing w.vars) same,
+      ),
+    ))
     (λ none. let c = least.1.0 in
     let f = class_first w examples c.0 c.1.1.seen in
     absurd (none f.0 (examples.within f.0 f.1.seen) (f.1, (c.1.0, extension_alike level g w.rows i c.0 f.0 c.1.0 (f.2.1, f.2.0) c.1.1))))
     (first_or_none (λ y. IsFirstOfClass w y × IsExtendable level g w.rows i y) (λ y. both_or_not (first_or_not w examples y) (extendable_or_not level g w i y examples covered)) w.vars))
     (λ none. inr (λ i x c. none i (x, c)))
     (least_row_or_none w.rows (λ k. (y : Name) × IsExtendable level g w.rows k y)
-        (λ k. some_or_not (IsExtendable level g w.rows k) (λ y. extendable_or_not level g w k y examples covered) w.vars (inside k))
-        (λ k c. (c.1.1.row, c.1.1.row_at)))
+    (λ k. some_or_not (IsExtendable level g w.rows k) (λ y. extendable_or_not level g w k y examples covered) w.vars (inside k))
+    (λ k c. (c.1.1.row, c.1.1.row_at)))
 
 -- where no kind of claim shows, none of the class does
-none_of_conjunction : (level : Level) (g : List Statement) (rows unwanted : List Mapping) → NoDomains rows → (ShowsNoRoot rows → ⊥) → NoneUncovered g rows → ((j : ℕ) → ShowsAdmitted level g rows unwanted j → ⊥)
+none_of_conjunction : (level : Level) (g : List Statement) (rows unwanted : List Mapping) → NoDomains rows → (ShowsNoRoot rows → ⊥) → NoneUncovered g rows
+    → ((j : ℕ) → ShowsAdmitted level g rows unwanted j → ⊥)
     → (claim : Claim) → GoesWith And claim → IsShown level g rows unwanted claim → ⊥
 none_of_conjunction level g rows unwanted domains root covered admitted (Domains i j x) goes h = domains i j x h
 none_of_conjunction level g rows unwanted domains root covered admitted NoRoot goes h = root h
@@ -118,7 +131,8 @@ none_of_conjunction level g rows unwanted domains root covered admitted (Admitte
 none_of_conjunction level g rows unwanted domains root covered admitted (Extension i x values) goes h = goes
 
 -- with OPTIONAL groups too
-none_of_optional : (level : Level) (g : List Statement) (rows unwanted : List Mapping) → (ShowsNoRoot rows → ⊥) → NoFork rows → NoneUncovered g rows → ((i : ℕ) (x : Name) → IsExtendable level g rows i x → ⊥)
+none_of_optional : (level : Level) (g : List Statement) (rows unwanted : List Mapping) → (ShowsNoRoot rows → ⊥) → NoFork rows → NoneUncovered g rows
+    → ((i : ℕ) (x : Name) → IsExtendable level g rows i x → ⊥)
     → (claim : Claim) → GoesWith Optional claim → IsShown level g rows unwanted claim → ⊥
 none_of_optional level g rows unwanted root fork covered extended (Domains i j x) goes h = goes
 none_of_optional level g rows unwanted root fork covered extended NoRoot goes h = root h
@@ -128,7 +142,8 @@ none_of_optional level g rows unwanted root fork covered extended (Admitted j) g
 none_of_optional level g rows unwanted root fork covered extended (Extension i x values) goes h = extended i x (row_mapping values, h.1)
 
 -- either there is a first claim of a class, or no claim of the class shows
-pub first_or_none_shows : (class : Class) (level : Level) (g : List Statement) (w : Wanted) (unwanted : List Mapping) (header : List Name) → AreExamples w → ((v : Name) → IsSeen unwanted v → In header v)
+pub first_or_none_shows : (class : Class) (level : Level) (g : List Statement) (w : Wanted) (unwanted : List Mapping) (header : List Name) → AreExamples w
+    → ((v : Name) → IsSeen unwanted v → In header v)
     → ((claim : Claim) × IsFirstClaim class level g w unwanted claim) ⊎ ((claim : Claim) → GoesWith class claim → IsShown level g w.rows unwanted claim → ⊥)
 first_or_none_shows And level g w unwanted header examples inside =
     ⊎_elim
@@ -141,8 +156,8 @@ first_or_none_shows And level g w unwanted header examples inside =
     (λ a. inl (Admitted a.0, (domains, root, covered, a.1)))
     (λ none. inr (none_of_conjunction level g w.rows unwanted domains root covered none))
     (least_row_or_none unwanted (ShowsAdmitted level g w.rows unwanted)
-        (admitted_or_not level g w.rows unwanted header (seen_list w.rows w.vars).0 inside examples.some (one_domain_seen g w unwanted r.0 examples domains r.1))
-        (λ j c. (c.row, c.row_at))))
+    (admitted_or_not level g w.rows unwanted header (seen_list w.rows w.vars).0 inside examples.some (one_domain_seen w r.0 examples domains r.1))
+    (λ j c. (c.row, c.row_at))))
     (first_uncovered g w examples))
     (λ root. inl (NoRoot, (domains, root)))
     (root_or_not w examples))
@@ -161,7 +176,8 @@ first_or_none_shows Optional level g w unwanted header examples inside =
     (root_or_not w examples)
 
 -- of one class and level the first claim is one, but for the values of an extension: what is first or least is one, and of two kinds one excludes the other
-one_claim : (class : Class) (level : Level) (g : List Statement) (w : Wanted) (unwanted : List Mapping) (claim other : Claim) → IsFirstClaim class level g w unwanted claim → IsFirstClaim class level g w unwanted other
+one_claim : (class : Class) (level : Level) (g : List Statement) (w : Wanted) (unwanted : List Mapping) (claim other : Claim) → IsFirstClaim class level g w unwanted claim
+    → IsFirstClaim class level g w unwanted other
     → IsOneClaim claim other
 one_claim And level g w unwanted (Domains i j x) (Domains k l v) a b =
     let e : j ≡ l = one_least (λ k. (y : Name) × ShowsDomains w.rows 1 k y) j l a.1 b.1 in
@@ -205,7 +221,8 @@ one_claim Optional level g w unwanted (Extension i x values) NoRoot a b = absurd
 one_claim Optional level g w unwanted (Fork x y z) (Fork u v s) a b =
     let d : x ≡ u = one_first_with (λ a. (b : Name) × (c : Name) × ShowsFork w.rows a b c) w.vars x u a.1 b.1 in
     let e : y ≡ v = one_first_with (λ b. (c : Name) × ShowsFork w.rows x b c) w.vars y v a.2 (subst (λ u. IsFirstWith (λ b. (c : Name) × ShowsFork w.rows u b c) w.vars v) (sym d) b.2) in
-    let f : z ≡ s = one_first_with (ShowsFork w.rows x y) w.vars z s a.3 (subst (λ y. IsFirstWith (ShowsFork w.rows x y) w.vars s) (sym e) (subst (λ x. IsFirstWith (ShowsFork w.rows x v) w.vars s) (sym d) b.3)) in
+    let f : z ≡ s = one_first_with (ShowsFork w.rows x y) w.vars z s a.3
+    (subst (λ y. IsFirstWith (ShowsFork w.rows x y) w.vars s) (sym e) (subst (λ x. IsFirstWith (ShowsFork w.rows x v) w.vars s) (sym d) b.3)) in
     λ t. Fork (d t) (e t) (f t)
 one_claim Optional level g w unwanted (Fork x y z) (Uncovered v) a b = absurd (b.1 x y z (first_has (ShowsFork w.rows x y) w.vars z a.3).1)
 one_claim Optional level g w unwanted (Fork x y z) (Extension k v others) a b = absurd (b.1 x y z (first_has (ShowsFork w.rows x y) w.vars z a.3).1)
@@ -217,7 +234,7 @@ one_claim Optional level g w unwanted (Extension i x values) (Uncovered v) a b =
 one_claim Optional level g w unwanted (Extension i x values) (Extension k v others) a b =
     let e : i ≡ k = one_least (λ k. (y : Name) × IsExtendable level g w.rows k y) i k a.3 b.3 in
     let f : x ≡ v = one_first_with (λ y. IsFirstOfClass w y × IsExtendable level g w.rows i y) w.vars x v a.4
-        (subst (λ k. IsFirstWith (λ y. IsFirstOfClass w y × IsExtendable level g w.rows k y) w.vars v) (sym e) b.4) in
+    (subst (λ k. IsFirstWith (λ y. IsFirstOfClass w y × IsExtendable level g w.rows k y) w.vars v) (sym e) b.4) in
     (e, f)
 one_claim Optional level g w unwanted NoRoot (Domains k l v) a b = absurd b
 one_claim Optional level g w unwanted NoRoot (Admitted l) a b = absurd b

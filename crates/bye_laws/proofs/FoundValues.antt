@@ -35,7 +35,7 @@ values_or_not g m t =
     ⊎_elim
     (λ h. inl (h.0, record { exactly = λ v. ((λ b. (free.1 v).0 ((h.1 v).0 b)), (λ k. (h.1 v).1 ((free.1 v).1 k))); meets = h.2 }))
     (λ none. inr (open_none g m t (λ e values. none e
-        (λ v. ((λ b. (free.1 v).1 ((values.exactly v).0 b)), (λ k. (values.exactly v).1 ((free.1 v).0 k))))
-        (values_told g m t e values)
-        values.meets)))
+    (λ v. ((λ b. (free.1 v).1 ((values.exactly v).0 b)), (λ k. (values.exactly v).1 ((free.1 v).0 k))))
+    (values_told g m t e values)
+    values.meets)))
     (mapping_or_none free.0 (graph_terms g) (λ e. MeetsNode g (merge m e) t) (λ e. node_or_not g (merge m e) t))

@@ -1,5 +1,5 @@
 -- The first with a property, the least number with it, rows by their numbers, and the search for a mapping by its values.
-use Rattle.std.proofs.Common.{◌≡◌, refl, ℕ, zero, suc, ◌<◌, Bool, true, false, cond, List, [], ◌∷◌, ◌++◌, map, length, Option, Some, None, ◌⊎◌, inl, inr, ⊎_elim, sym, ◌∙◌, ap, subst, arith, IsSome}
+use Rattle.std.proofs.Common.{◌≡◌, refl, ℕ, zero, suc, ◌<◌, cond, List, [], ◌∷◌, ◌++◌, map, length, Some, ◌⊎◌, inl, inr, ⊎_elim, sym, ◌∙◌, ap, subst, arith, IsSome}
 use Rattle.std.specs.List.{flat_map}
 use Rattle.std.specs.Str.{bytes_eq}
 use Rattle.std.proofs.lemmas.Slice.Eq.{bytes_eq-Decides}
@@ -100,7 +100,8 @@ row_or_none (r ∷ rows) (suc zero) = inl (r, refl)
 row_or_none (r ∷ rows) (suc (suc i)) = row_or_none rows (suc i)
 
 -- a fact of the row of a number
-pub row_is_or_not : (rows : List Mapping) (i : ℕ) (P : Mapping → Type 0) → ((m : Mapping) → IsRowAt rows i m → P m ⊎ (P m → ⊥)) → ((m : Mapping) × IsRowAt rows i m × P m) ⊎ (((m : Mapping) × IsRowAt rows i m × P m) → ⊥)
+pub row_is_or_not : (rows : List Mapping) (i : ℕ) (P : Mapping → Type 0) → ((m : Mapping) → IsRowAt rows i m → P m ⊎ (P m → ⊥))
+    → ((m : Mapping) × IsRowAt rows i m × P m) ⊎ (((m : Mapping) × IsRowAt rows i m × P m) → ⊥)
 row_is_or_not rows i P decide =
     ⊎_elim
     (λ w. ⊎_elim (λ h. inl (w.0, w.1, h)) (λ never. inr (λ h. never (subst P (one_at rows i h.0 w.0 h.1 w.1) h.2))) (decide w.0 w.1))
@@ -108,7 +109,8 @@ row_is_or_not rows i P decide =
     (row_or_none rows i)
 
 -- of the numbers of rows the least with a property, or none has it
-pub least_row_or_none : (rows : List Mapping) (P : ℕ → Type 0) → ((k : ℕ) → P k ⊎ (P k → ⊥)) → ((k : ℕ) → P k → (m : Mapping) × IsRowAt rows k m) → ((k : ℕ) × IsLeast P k) ⊎ ((k : ℕ) → P k → ⊥)
+pub least_row_or_none : (rows : List Mapping) (P : ℕ → Type 0) → ((k : ℕ) → P k ⊎ (P k → ⊥)) → ((k : ℕ) → P k → (m : Mapping) × IsRowAt rows k m)
+    → ((k : ℕ) × IsLeast P k) ⊎ ((k : ℕ) → P k → ⊥)
 least_row_or_none rows P decide row =
     ⊎_elim inl (λ none. inr (λ k h. let w = row k h in none k (row_number rows k w.0 w.1) h)) (least_below P decide (suc (length rows)))
 
@@ -151,8 +153,8 @@ mapping_or_none vs ts P decide =
     ⊎_elim
     (λ w. inl (row_mapping w.0, assigned vs ts w.0 w.1, w.2))
     (λ none. inr (λ e exact told h. none (listing vs e)
-        (listed_assigned vs ts e (λ v i. let b = bound (e v) ((exact v).1 i) in (b.0, told v b.0 b.1, b.1)))
-        (subst P (sym (listed_whole vs e (λ v b. (exact v).0 b))) h)))
+    (listed_assigned vs ts e (λ v i. let b = bound (e v) ((exact v).1 i) in (b.0, told v b.0 b.1, b.1)))
+    (subst P (sym (listed_whole vs e (λ v b. (exact v).0 b))) h)))
     (one_or_none (λ es. P (row_mapping es)) (λ es. decide (row_mapping es)) (assignments vs ts))
 
 -- a mapping binds exactly these variables or not, where all that it binds are in a list
