@@ -225,7 +225,7 @@ one_domain rows never m row v seen =
     (some_or_none (m v))
 
 -- the variables that are seen are the one domain
-has_one_domain : (w : Wanted) → AreExamples w → (x : Name) → BindsEach w.rows x → ((m : Mapping) → In w.rows m → (v : Name) → IsSeen w.rows v → Binds m v) → HasOneDomain w.rows x (seen_list w.rows w.vars).0
+pub has_one_domain : (w : Wanted) → AreExamples w → (x : Name) → BindsEach w.rows x → ((m : Mapping) → In w.rows m → (v : Name) → IsSeen w.rows v → Binds m v) → HasOneDomain w.rows x (seen_list w.rows w.vars).0
 has_one_domain w examples x bound same =
     let list = seen_list w.rows w.vars in
     let some = some_row w.rows examples.some in

@@ -134,7 +134,7 @@ single w (also d (also e es)) x order each (inr h) =
     absurd ((beside_apart w d (also e es) (label d) x order.0 (label_self d) h).0 (within_each w.rows (label d) x each))
 
 -- some variable of the list is bound in all rows or none is
-some_each : (rows : List Mapping) (xs : List Name) → ((x : Name) × BindsEach rows x) ⊎ ((x : Name) → In xs x → BindsEach rows x → ⊥)
+pub some_each : (rows : List Mapping) (xs : List Name) → ((x : Name) × BindsEach rows x) ⊎ ((x : Name) → In xs x → BindsEach rows x → ⊥)
 some_each rows [] = inr (λ x h each. h)
 some_each rows (x ∷ xs) =
     ⊎_elim

@@ -57,3 +57,7 @@ pub mod StartsRight
 pub mod ClaimLists
 pub mod Near
 pub mod Selecting
+pub mod Searches
+pub mod ClaimsDecided
+pub mod FirstClaims
+pub mod FoundValues

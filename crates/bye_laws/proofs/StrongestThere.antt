@@ -43,19 +43,19 @@ some_name [] = inr (λ h. h.1)
 some_name (v ∷ vs) = inl (v, inl refl)
 
 -- a pattern is of the class or is not
-triple_or_not : (p : Pattern) → IsClassTriple p ⊎ (IsClassTriple p → ⊥)
+pub triple_or_not : (p : Pattern) → IsClassTriple p ⊎ (IsClassTriple p → ⊥)
 triple_or_not p =
     same_decided (λ h. record { variable = h.0; subject = h.1.0; predicate = h.1.1.0; object = h.1.1.1 }) (λ c. (c.variable, (c.subject, (c.predicate, c.object))))
     (both_or_not (some_name (vars p)) (both_or_not (named_or_not p.s) (both_or_not (named_or_not p.p) (named_or_not p.o))))
 
 -- and is common or is not
-common_or_not : (g : List Statement) (header : List Name) (rows : List Mapping) (p : Pattern) → IsCommon g header rows p ⊎ (IsCommon g header rows p → ⊥)
+pub common_or_not : (g : List Statement) (header : List Name) (rows : List Mapping) (p : Pattern) → IsCommon g header rows p ⊎ (IsCommon g header rows p → ⊥)
 common_or_not g header rows p =
     same_decided (λ h. record { in_class = h.0; over = h.1.0; holds = h.1.1 }) (λ c. (c.in_class, (c.over, c.holds)))
     (both_or_not (triple_or_not p) (both_or_not (each_or_not (In header) (in_or_not header) (vars p)) (all_or_not (λ m. Meets g m p) (λ m. meets_or_not g m p) rows)))
 
 -- a condition is of the class or is not
-class_or_not : (level : Level) (c : Cond) → IsClassCond level c ⊎ (IsClassCond level c → ⊥)
+pub class_or_not : (level : Level) (c : Cond) → IsClassCond level c ⊎ (IsClassCond level c → ⊥)
 class_or_not level (conds.Bound v) = inl tt
 class_or_not level (conds.SameVar v w) = ⊎_elim (λ e. inr (λ n. n e)) (λ n. inl n) (same_or_not v w)
 class_or_not level (conds.SameConst v c) = test_or_not (is_blank c) false
@@ -75,7 +75,7 @@ form_or_not header (conds.SameConst v c) = inl tt
 form_or_not header (conds.KindOf kind v) = inl tt
 
 -- and is common or is not
-common_cond_or_not : (level : Level) (header : List Name) (rows : List Mapping) (c : Cond) → IsCommonCond level header rows c ⊎ (IsCommonCond level header rows c → ⊥)
+pub common_cond_or_not : (level : Level) (header : List Name) (rows : List Mapping) (c : Cond) → IsCommonCond level header rows c ⊎ (IsCommonCond level header rows c → ⊥)
 common_cond_or_not level header rows c =
     same_decided (λ h. record { in_class = h.0; over = h.1.0; holds = h.1.1 }) (λ c. (c.in_class, (c.over, c.holds)))
     (both_or_not (class_or_not level c) (both_or_not (each_or_not (In header) (in_or_not header) (cond_vars c)) (all_or_not (λ m. MeetsCond m c) (λ m. met_or_not m c) rows)))

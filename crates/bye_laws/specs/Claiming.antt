@@ -14,6 +14,8 @@ use Rattle.bye_pattern.specs.declared.level.Level.{Level}
 use Rattle.bye_pattern.specs.Certificates.{
   Admitted, CertificateValue, Claim, Domains, Extension, Fork, IsShown, NoRoot, Shows, ShowsAdmitted, ShowsDomains, ShowsExtension, ShowsFork, ShowsNoRoot, ShowsUncovered, Uncovered,
 }
+use Rattle.bye_pattern.specs.Fitting.{NoFit}
+use Rattle.bye_pattern.specs.Keeping.{IsOfClass}
 use Rattle.bye_pattern.specs.Patterns.{Pattern, all_vars}
 use Rattle.bye_pattern.specs.Starting.{IsStartNode}
 use Rattle.bye_pattern.specs.Trees.{leaf, node}
@@ -124,3 +126,6 @@ pub record FirstClaims : Type 0 where
   -- of one class and level the first claim is one, but for the values of an extension
   pub one : (class : Class) (level : Level) (g : List Statement) (w : Wanted) (unwanted : List Mapping) (claim other : Claim) → AreExamples w
       → IsFirstClaim class level g w unwanted claim → IsFirstClaim class level g w unwanted other → IsOneClaim claim other
+  -- and there is one exactly where no query of the class fits
+  pub exactly : (class : Class) (level : Level) (g : List Statement) (w : Wanted) (unwanted : List Mapping) (header : List Name) → AreExamples w → Allows class unwanted
+      → ((v : Name) → IsSeen unwanted v → In header v) → NoFit (IsOfClass class level w.rows) g w.rows unwanted ↔ ((claim : Claim) × IsFirstClaim class level g w unwanted claim)

@@ -39,10 +39,11 @@ abbrev pub CertificatesAreSound : Type 0
 CertificatesAreSound = (g : List Statement) (w : Wanted) (unwanted : List Mapping) (c : CertificateValue) → AreExamples w → Shows g w.rows unwanted c
     → NoFit (IsOfClass c.class c.level w.rows) g w.rows unwanted
 
--- where no query of the class fits, some certificate of the class shows it: it is not so that none does
+-- where no query of the class fits, some certificate of the class and level shows it; the unwanted rows bind variables of a table
 abbrev pub CertificatesAreEnough : Type 0
-CertificatesAreEnough = (class : Class) (level : Level) (g : List Statement) (w : Wanted) (unwanted : List Mapping) → AreExamples w → Allows class unwanted
-    → NoFit (IsOfClass class level w.rows) g w.rows unwanted → ((c : CertificateValue) → c.class ≡ class → c.level ≡ level → Shows g w.rows unwanted c → ⊥) → ⊥
+CertificatesAreEnough = (class : Class) (level : Level) (g : List Statement) (w : Wanted) (unwanted : List Mapping) (header : List Name) → AreExamples w → Allows class unwanted
+    → ((v : Name) → IsSeen unwanted v → In header v) → NoFit (IsOfClass class level w.rows) g w.rows unwanted
+    → (c : CertificateValue) × (c.class ≡ class) × (c.level ≡ level) × Shows g w.rows unwanted c
 
 -- there is a tree of domains exactly where neither noroot nor a fork shows; and one of a single domain exactly where neither noroot
 -- shows nor that two rows have different domains

@@ -13,7 +13,7 @@ ghost use Rattle.bye_laws.specs.LocalPass.{LocalPassKeeps};
 ghost use Rattle.bye_laws.specs.QueryDomains.{QueriesAreOverDomains};
 ghost use Rattle.bye_laws.specs.Settling.{PassesAreLocal, Settling};
 ghost use Rattle.bye_laws.specs.Serving.{LocalQuestions};
-ghost use Rattle.bye_laws.specs.Claiming.{ClaimsByLists, ValuesAreListed};
+ghost use Rattle.bye_laws.specs.Claiming.{ClaimsByLists, FirstClaims, ValuesAreListed};
 ghost use Rattle.bye_laws.specs.Later.{NearIsEnough, StartAnswersAreShared};
 ghost use Rattle.bye_laws.specs.Ordering.{OnePattern, SortedListsAreOneAndThere};
 ghost use Rattle.bye_laws.specs.DomainNodes.{DomainNodesAreTold, DomainTreesByDepth};
@@ -206,4 +206,9 @@ pub fn gathered_selects()
 /// What is learned, and what a written query that keeps the rules is read as, is a SELECT of the program.
 pub fn read_as_selects()
     ensures { ReadAsSelects }
+{}
+
+/// The first claim of a class shows, is there where any claim of the class shows, and is one but for the values of an extension.
+pub fn first_claims()
+    ensures { FirstClaims }
 {}

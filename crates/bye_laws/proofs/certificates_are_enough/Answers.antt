@@ -1,5 +1,5 @@
-use Rattle.bye_laws.proofs.BothClasses.{certificates_enough}
+use Rattle.bye_laws.proofs.FirstClaims.{enough}
 use Rattle.bye_laws.proofs.certificates_are_enough.Goals as goal
 
 pub returns : goal.returns
-returns c = certificates_enough
+returns c = enough
