@@ -2,7 +2,9 @@ pub mod Patterns
 pub mod Conditions
 pub mod Algebra
 pub mod Trees
+pub mod Written
 pub mod Designed
+pub mod Gathered
 pub mod Nodes
 pub mod Conjuncts
 pub mod Classes
