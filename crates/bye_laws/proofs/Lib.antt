@@ -1,6 +1,10 @@
 pub mod Telling
+pub mod Commuting
+pub mod Conjoined
+pub mod EarlyRules
 pub mod Withins
 pub mod Reached
+pub mod WrittenRows
 pub mod ReachedNodes
 pub mod Descending
 pub mod Values

@@ -19,6 +19,7 @@ ghost use Rattle.bye_laws.specs.Ordering.{OnePattern, SortedListsAreOneAndThere}
 ghost use Rattle.bye_laws.specs.DomainNodes.{DomainNodesAreTold, DomainTreesByDepth};
 ghost use Rattle.bye_laws.specs.Strongest.{StrongestNodes};
 ghost use Rattle.bye_laws.specs.Beginning.{StartsAreThereAndOne};
+ghost use Rattle.bye_laws.specs.Written.{BrokenOrDesignedEarly, EarlyIsDesigned, WrittenAnswers};
 
 /// A row of a query over a well-designed tree is told by the nodes that it reaches and by the further expressions of the root
 /// (SPARQL 1.1 Query, section 18.5).
@@ -179,4 +180,20 @@ pub fn start_answers_are_shared()
 /// The triples with terms of the rows in them say all of one conjunction that the graph says.
 pub fn near_is_enough()
     ensures { NearIsEnough }
+{}
+
+/// A written query that keeps the four rules, by what stands before each OPTIONAL, is read as a well-designed tree.
+pub fn early_is_designed()
+    ensures { EarlyIsDesigned }
+{}
+
+/// The answers of a written query, in the order of its text, are those of the select that it is read as
+/// (SPARQL 1.1 Query, sections 18.2.2 and 18.5).
+pub fn written_answers()
+    ensures { WrittenAnswers }
+{}
+
+/// A written query keeps the rules by what stands before each OPTIONAL, or one node is the first that breaks one.
+pub fn broken_or_designed_early()
+    ensures { BrokenOrDesignedEarly }
 {}

@@ -14,11 +14,11 @@ use Rattle.bye_pattern.specs.Designed.{IsSafe, Keeps, IsDesigned, AreDesigned, I
 use Rattle.bye_table.proofs.Merging.{in_or_not}
 
 -- the variables of all earlier nodes are those above and those beside, and the parent's are above
-record Earlier (parent above beside seen : List Name) : Type 0 where
-  near : (v : Name) → In parent v → In above v
-  splits : (v : Name) → In seen v → In above v ⊎ In beside v
-  above_seen : (v : Name) → In above v → In seen v
-  beside_seen : (v : Name) → In beside v → In seen v
+pub record Earlier (parent above beside seen : List Name) : Type 0 where
+  pub near : (v : Name) → In parent v → In above v
+  pub splits : (v : Name) → In seen v → In above v ⊎ In beside v
+  pub above_seen : (v : Name) → In above v → In seen v
+  pub beside_seen : (v : Name) → In beside v → In seen v
 
 -- for the children of a node, and for the next of them
 into : (parent above beside seen own : List Name) → Earlier parent above beside seen → Earlier own (above ++ own) beside (seen ++ own)
@@ -62,7 +62,7 @@ group_keeps parent above beside seen ps cs e group NotWellDesigned =
 group_keeps parent above beside seen ps cs e group UnsafeCondition = group.safe
 
 mutual
-  designed_tree : (parent above beside seen : List Name) (t : Tree) → Earlier parent above beside seen → IsDesigned parent above beside t → IsTree parent seen t
+  pub designed_tree : (parent above beside seen : List Name) (t : Tree) → Earlier parent above beside seen → IsDesigned parent above beside t → IsTree parent seen t
   designed_tree parent above beside seen (node ps cs f) e h =
       (group_from parent above beside seen ps cs e h.0, designed_forest (all_vars ps) (above ++ all_vars ps) beside (seen ++ all_vars ps) f (into parent above beside seen (all_vars ps) e) h.1)
 
@@ -124,7 +124,7 @@ empty_or_not : (ps : List Pattern) → (ps ≡ [] → ⊥) ⊎ ((ps ≡ [] → �
 empty_or_not [] = inr (λ h. h refl)
 empty_or_not (p ∷ ps) = inl (λ e. cc)
 
-keeps_or_not : (parent above beside : List Name) (ps : List Pattern) (cs : List Cond) (rule : Rule)
+pub keeps_or_not : (parent above beside : List Name) (ps : List Pattern) (cs : List Cond) (rule : Rule)
     → Keeps parent above beside ps cs rule ⊎ (Keeps parent above beside ps cs rule → ⊥)
 unfolding Fits
 keeps_or_not parent above beside ps cs NoTriples = empty_or_not ps
@@ -141,7 +141,7 @@ keeps_or_not parent above beside ps cs NotWellDesigned =
 keeps_or_not parent above beside ps cs UnsafeCondition = safe_or_not parent ps cs
 
 -- the first broken rule of a list, or none
-first_or_all : (K : Rule → Type 0) → ((rule : Rule) → K rule ⊎ (K rule → ⊥)) → (rs : List Rule) → ((rule : Rule) → In rs rule → K rule) ⊎ ((rule : Rule) × IsFirstBroken K rs rule)
+pub first_or_all : (K : Rule → Type 0) → ((rule : Rule) → K rule ⊎ (K rule → ⊥)) → (rs : List Rule) → ((rule : Rule) → In rs rule → K rule) ⊎ ((rule : Rule) × IsFirstBroken K rs rule)
 first_or_all K test [] = inl (λ rule h. absurd h)
 first_or_all K test (r ∷ rs) =
     ⊎_elim
@@ -149,18 +149,18 @@ first_or_all K test (r ∷ rs) =
     (λ n. inr (r, inl (refl, n)))
     (test r)
 
-in_rules : (rule : Rule) → In rules rule
+pub in_rules : (rule : Rule) → In rules rule
 in_rules NoTriples = inl refl
 in_rules NoNewVariable = inr (inl refl)
 in_rules NotWellDesigned = inr (inr (inl refl))
 in_rules UnsafeCondition = inr (inr (inr (inl refl)))
 
-broken_not_kept : (K : Rule → Type 0) (rs : List Rule) (rule : Rule) → IsFirstBroken K rs rule → K rule → ⊥
+pub broken_not_kept : (K : Rule → Type 0) (rs : List Rule) (rule : Rule) → IsFirstBroken K rs rule → K rule → ⊥
 broken_not_kept K [] rule h k = h
 broken_not_kept K (r ∷ rs) rule (inl h) k = h.1 (subst K (sym h.0) k)
 broken_not_kept K (r ∷ rs) rule (inr h) k = broken_not_kept K rs rule h.1 k
 
-one_broken : (K : Rule → Type 0) (rs : List Rule) (rule next : Rule) → IsFirstBroken K rs rule → IsFirstBroken K rs next → rule ≡ next
+pub one_broken : (K : Rule → Type 0) (rs : List Rule) (rule next : Rule) → IsFirstBroken K rs rule → IsFirstBroken K rs next → rule ≡ next
 one_broken K [] rule next h k = absurd h
 one_broken K (r ∷ rs) rule next (inl h) (inl k) = sym h.0 ∙ k.0
 one_broken K (r ∷ rs) rule next (inl h) (inr k) = absurd (h.1 k.0)

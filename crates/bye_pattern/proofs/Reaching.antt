@@ -12,13 +12,13 @@ use Rattle.bye_table.proofs.Merging.{merge_bound, restrict_binds}
 use Rattle.bye_pattern.proofs.Solutions.{row_meets}
 
 -- the rows bind variables of this list alone
-Stays : List Statement → Alg → List Name → Type 0
+unfoldable pub Stays : List Statement → Alg → List Name → Type 0
 Stays g a vs = (m : Mapping) (v : Name) → IsRow g a m → Binds m v → In vs v
 
 mutual
   unfolding Stays
 
-  body_stays : (g : List Statement) (t : Tree) → Stays g (body t) (tree_vars t)
+  pub body_stays : (g : List Statement) (t : Tree) → Stays g (body t) (tree_vars t)
   body_stays g (node ps cs f) = joined_stays g (Bgp ps) (all_vars ps) f (λ m v row h. ((row_meets g ps m row).0 v).0 h)
 
   joined_stays : (g : List Statement) (a : Alg) (vs : List Name) (f : Forest) → Stays g a vs → Stays g (joined a f) (vs ++ forest_vars f)
