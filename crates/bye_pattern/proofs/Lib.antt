@@ -13,6 +13,7 @@ pub mod RowMappings
 pub mod TableTexts
 pub mod WorkedTerms
 pub mod WorkedAnswers
+pub mod WorkedGroups
 pub mod WorkedOptional
 pub mod WorkedKept
 pub mod WorkedClaims

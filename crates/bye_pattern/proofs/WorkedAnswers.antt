@@ -38,7 +38,7 @@ a_has_mail : IsBgpRow people (has_mail ∷ []) mailed
 a_has_mail = meets_row people (has_mail ∷ []) mailed (row_exactly ((x, a) ∷ (m, m1) ∷ [])) ((_, inr (inr (inl refl)), record { s = refl; p = refl; o = refl }), tt)
 
 -- who has a mail address is a
-mail_of_a : (f : Statement) → In people f → Some mail ≡ Some f.p → a ≡ f.s
+pub mail_of_a : (f : Statement) → In people f → Some mail ≡ Some f.p → a ≡ f.s
 mail_of_a f (inl e) p = absurd (values_differ mail kind refl (p ∙ ap (λ (f : Statement). Some f.p) (sym e)))
 mail_of_a f (inr (inl e)) p = absurd (values_differ mail kind refl (p ∙ ap (λ (f : Statement). Some f.p) (sym e)))
 mail_of_a f (inr (inr (inl e))) p = ap (λ (f : Statement). f.s) e

@@ -14,6 +14,7 @@ pub mod Starting
 pub mod Keeping
 pub mod Certificates
 pub mod Worked
+pub mod WorkedWritten
 pub mod Common
 pub mod Covering
 pub mod Reading

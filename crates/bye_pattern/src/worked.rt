@@ -14,6 +14,7 @@ ghost use Rattle.bye_pattern.specs.Worked.{
   ClaimsOfAdmitted,
   ClaimsOfExtension,
 };
+ghost use Rattle.bye_pattern.specs.WorkedWritten.{BlocksAfterOptionals, RulesByPlace, SplitFilters};
 
 /// The answers of a query with an OPTIONAL group over people with and without mail.
 pub fn optional_answers()
@@ -73,4 +74,19 @@ pub fn claims_of_admitted()
 /// A wanted row that can be extended.
 pub fn claims_of_extension()
     ensures { ClaimsOfExtension }
+{}
+
+/// A query with triples after its OPTIONAL, and a row of it.
+pub fn blocks_after_optionals()
+    ensures { BlocksAfterOptionals }
+{}
+
+/// Two queries that break a rule because triples come after their OPTIONAL.
+pub fn rules_by_place()
+    ensures { RulesByPlace }
+{}
+
+/// A FILTER that is split into conditions of the root and an outer expression.
+pub fn split_filters()
+    ensures { SplitFilters }
 {}
