@@ -63,7 +63,8 @@ plain_holds m (Same (Var v) (Const t)) c h = told m _ c h
 plain_holds m (Same (Const t) (Var v)) c h =
     ((λ k. (told m _ c h).0 (turned_true (Some t) (m v) k)), (λ k. turned_true (m v) (Some t) ((told m _ c h).1 k)))
 plain_holds m (Same (Const s) (Const t)) c h = cc
-plain_holds m (KindOf kind s) c h = cc
+plain_holds m (KindOf kind (Var v)) c h = told m _ c h
+plain_holds m (KindOf kind (Const t)) c h = cc
 plain_holds m (Not e) c h = cc
 plain_holds m (And d e) c h = cc
 plain_holds m (Or d e) c h = cc

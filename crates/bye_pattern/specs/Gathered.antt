@@ -19,6 +19,7 @@ use Rattle.bye_pattern.specs.Written.{Group, Block, Optional, Filter, done, also
 -- the plain condition that an expression is, where it is one; sameTerm has its constant on either side
 abbrev pub plain : Expr → Option Cond
 plain (IsBound v) = Some (conds.Bound v)
+plain (KindOf kind (Var v)) = Some (conds.KindOf kind v)
 plain (Same (Var v) (Var w)) = Some (conds.SameVar v w)
 plain (Same (Var v) (Const c)) = Some (conds.SameConst v c)
 plain (Same (Const c) (Var v)) = Some (conds.SameConst v c)

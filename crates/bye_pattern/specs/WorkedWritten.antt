@@ -3,9 +3,10 @@ use Rattle.std.specs.Prelude.{◌≡◌, List, [], ◌∷◌, true, None, codes}
 use Rattle.bye_table.specs.Mappings.{Name, Mapping, row_mapping}
 use Rattle.bye_pattern.specs.declared.slot.Slot.TheVariants.{Var, Const}
 use Rattle.bye_pattern.specs.declared.cond.Cond.TheVariants as conds
+use Rattle.bye_pattern.specs.declared.kind.Kind.TheVariants.{Iri}
 use Rattle.bye_pattern.specs.declared.rule.Rule.TheVariants.{NotWellDesigned, UnsafeCondition}
 use Rattle.bye_pattern.specs.Patterns.{Pattern}
-use Rattle.bye_pattern.specs.Conditions.{Expr, And, IsBound, Same}
+use Rattle.bye_pattern.specs.Conditions.{Expr, And, IsBound, KindOf, Same}
 use Rattle.bye_pattern.specs.Algebra.{IsAnswer}
 use Rattle.bye_pattern.specs.Trees.{node, leaf, more, alg}
 use Rattle.bye_pattern.specs.Designed.{IsWellDesigned}
@@ -57,14 +58,15 @@ pub record RulesByPlace : Type 0 where
   pub designed_tree : IsWellDesigned (gather comes_again).tree
   pub not_designed : IsBrokenEarly comes_again (1 ∷ []) NotWellDesigned
 
--- FILTER (bound(?x) && sameTerm(e:Person, ?t) && sameTerm(?m, "m1")) before the OPTIONAL that has ?m
-abbrev pub three_tests : Expr
-three_tests = And (And (IsBound x) (Same (Const person) (Var t))) (Same (Var m) (Const (text (codes "m1"))))
+-- FILTER (bound(?x) && isIRI(?x) && sameTerm(e:Person, ?t) && sameTerm(?m, "m1")) before the OPTIONAL that has ?m
+abbrev pub four_tests : Expr
+four_tests = And (And (And (IsBound x) (KindOf Iri (Var x))) (Same (Const person) (Var t))) (Same (Var m) (Const (text (codes "m1"))))
 
 abbrev pub split : Written
-split = select_all (Block (has_kind ∷ []) ∷ Filter three_tests ∷ Optional (group_of (Block (has_mail ∷ []) ∷ [])) ∷ [])
+split = select_all (Block (has_kind ∷ []) ∷ Filter four_tests ∷ Optional (group_of (Block (has_mail ∷ []) ∷ [])) ∷ [])
 
--- two of its conjuncts are conditions of the root, and the third is an outer expression
+-- three of its conjuncts are conditions of the root, and the last is an outer expression
 pub record SplitFilters : Type 0 where
-  pub tree : (gather split).tree ≡ node (has_kind ∷ []) (conds.Bound x ∷ conds.SameConst t person ∷ []) (more (node (has_mail ∷ []) [] leaf) leaf)
+  pub tree : (gather split).tree
+      ≡ node (has_kind ∷ []) (conds.Bound x ∷ conds.KindOf Iri x ∷ conds.SameConst t person ∷ []) (more (node (has_mail ∷ []) [] leaf) leaf)
   pub outer : (gather split).outer ≡ Same (Var m) (Const (text (codes "m1"))) ∷ []
