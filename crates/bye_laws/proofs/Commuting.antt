@@ -187,17 +187,24 @@ join_last A B C es apart m (y, (a, c, x, w, a_c, d), inl (b, z, same, hold, e)) 
 join_last A B C es apart m (y, (a, c, x, w, a_c, d), inr (e, none)) = (
   a,
   c,
-  (a, x, inr (refl, λ n (b, z, near, hold, f).
-      let b_c : Compatible b c = λ v s t h k.
-      let u = bound (a v) (apart.shared a b c v x z w (binds (b v) s h) (binds (c v) t k)) in
-      sym (near v u.0 s u.1 h) ∙ a_c v u.0 t u.1 k in
-      none (merge (merge a c) b) (
-        b,
-        z,
-        subst (λ y. Compatible y b) (sym d) (from_parts a c b near (turned b c b_c)),
-        subst (λ y. AllHoldExpr es (merge y b)) (sym d) ((apart.holds a b c x z w near a_c b_c).0 hold),
-        ap (λ y. merge y b) (sym d),
-      ))),
+  (
+    a,
+    x,
+    inr (
+      refl,
+      λ n (b, z, near, hold, f).
+          let b_c : Compatible b c = λ v s t h k.
+          let u = bound (a v) (apart.shared a b c v x z w (binds (b v) s h) (binds (c v) t k)) in
+          sym (near v u.0 s u.1 h) ∙ a_c v u.0 t u.1 k in
+          none (merge (merge a c) b) (
+            b,
+            z,
+            subst (λ y. Compatible y b) (sym d) (from_parts a c b near (turned b c b_c)),
+            subst (λ y. AllHoldExpr es (merge y b)) (sym d) ((apart.holds a b c x z w near a_c b_c).0 hold),
+            ap (λ y. merge y b) (sym d),
+          ),
+    ),
+  ),
   w,
   a_c,
   e ∙ d,

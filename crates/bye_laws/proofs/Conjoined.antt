@@ -1,12 +1,9 @@
 -- The FILTERs of a written group hold exactly where their conjuncts do, as conditions and as outer expressions.
-use Rattle.std.proofs.Common.{◌≡◌, refl, Bool, true, false, not, cond, List, [], ◌∷◌, ◌++◌, map, Option, Some, None, IsSome, is_some, ◌⊎◌, inl, inr, ⊎_elim, sym, ◌∙◌, ap, subst, ◌↔◌}
+use Rattle.std.proofs.Common.{◌≡◌, refl, Bool, true, false, not, cond, List, [], ◌∷◌, ◌++◌, map, Option, Some, None, IsSome, is_some, sym, ◌∙◌, ap, subst, ◌↔◌}
 use Rattle.std.specs.List.{AllByRecursion, cons_option, filter, filter_map, flat_map, list_all}
 use Rattle.bye_terms.specs.declared.term.Term.{Term}
-use Rattle.bye_terms.specs.Members.{In}
-use Rattle.bye_terms.proofs.Lists.{all_join, all_parts, each_of}
-use Rattle.bye_terms.proofs.Tests.{bool_cases}
+use Rattle.bye_terms.proofs.Lists.{all_join, all_parts}
 use Rattle.bye_table.specs.Mappings.{Mapping, Name, is_in}
-use Rattle.bye_table.proofs.Merging.{is_in_in, some_same}
 use Rattle.bye_pattern.specs.declared.cond.Cond.{Cond}
 use Rattle.bye_pattern.specs.declared.slot.Slot.TheVariants.{Var, Const}
 use Rattle.bye_pattern.specs.Patterns.{all_vars}

@@ -1,6 +1,7 @@
 pub mod Telling
 pub mod Commuting
 pub mod Conjoined
+pub mod Gathering
 pub mod EarlyRules
 pub mod Withins
 pub mod Reached

@@ -1,5 +1,5 @@
 -- The rows of a written group, block by block, are those of its node: each OPTIONAL moves past the blocks that come after it.
-use Rattle.std.proofs.Common.{◌≡◌, refl, List, [], ◌∷◌, ◌++◌, map, Some, ◌⊎◌, inl, inr, ⊎_elim, sym, ◌∙◌, ap, subst, ◌↔◌}
+use Rattle.std.proofs.Common.{◌≡◌, List, [], ◌∷◌, ◌++◌, map, Some, ◌⊎◌, inl, inr, ⊎_elim, sym, ◌∙◌, subst, ◌↔◌}
 use Rattle.std.specs.List.{AllByRecursion}
 use Rattle.std.proofs.lemmas.List.{append-nil, append_assoc}
 use Rattle.bye_terms.specs.declared.term.Term.{Term}
@@ -11,7 +11,7 @@ use Rattle.bye_table.proofs.Merging.{binds, bound, merge_left, merge_right}
 use Rattle.bye_pattern.specs.declared.cond.Cond.{Cond}
 use Rattle.bye_pattern.specs.Patterns.{Pattern, all_vars}
 use Rattle.bye_pattern.specs.Conditions.{AllHold, AllHoldExpr, Expr, HoldsExpr, cond_expr}
-use Rattle.bye_pattern.specs.Algebra.{Alg, Bgp, IsAnswer, IsBgpRow, IsJoin, IsLeftJoin, IsRow, Join, LeftJoin}
+use Rattle.bye_pattern.specs.Algebra.{Alg, Bgp, IsAnswer, IsBgpRow, IsJoin, IsRow, Join, LeftJoin}
 use Rattle.bye_pattern.specs.Trees.{Forest, Tree, alg, body, joined, leaf, more, node, own_conds, own_vars, tree_vars}
 use Rattle.bye_pattern.specs.Designed.{IsSafe, IsTree}
 use Rattle.bye_pattern.specs.Written.{Block, Filter, Group, Optional, Written, also, done, filters, triples, walk, walk_on, with_block}
@@ -20,9 +20,9 @@ use Rattle.bye_pattern.proofs.FourRules.{Earlier, designed_tree}
 use Rattle.bye_pattern.proofs.Reaching.{Stays, body_stays}
 use Rattle.bye_pattern.proofs.Solutions.{row_meets}
 use Rattle.bye_terms.proofs.Lists.{all_map, map_all}
-use Rattle.bye_laws.proofs.Commuting.{Apart, Same, blocks_joined, from_parts, join_assoc, join_moves, join_same, joined_nothing, left_same, merge_swaps, nothing_joined, same_self, same_then, same_turned, turned}
+use Rattle.bye_laws.proofs.Commuting.{Apart, Same, blocks_joined, from_parts, join_assoc, join_moves, join_same, joined_nothing, left_same, nothing_joined, same_self, same_then, same_turned, turned}
 use Rattle.bye_laws.proofs.Conjoined.{optional_tests, whole_tests}
-use Rattle.bye_laws.proofs.EarlyRules.{early_designed, grown, vars_left, vars_right}
+use Rattle.bye_laws.proofs.EarlyRules.{early_designed, grown, vars_right}
 use Rattle.bye_laws.proofs.Reached.{shared_tree}
 use Rattle.bye_laws.proofs.Telling.{holds_told, merge_tells}
 
@@ -148,6 +148,12 @@ optional_moves g a step ps qs t es here far =
     (left_same (IsRow g (Join x (Bgp qs))) (IsRow g (body t)) (IsRow g (Join a (Bgp (ps ++ qs)))) (IsRow g (body t)) es es
     (two_blocks g a ps qs) (same_self (IsRow g (body t))) (same_self (AllHoldExpr es))))
 
+-- a group begins with the pattern of no triples, which adds nothing
+from_nothing : (g : List Statement) (h : Group) → SameRows g (walk h) (joined (Join (Bgp []) (Bgp (triples h))) (optionals h)) → SameRows g (walk h) (joined (Bgp (triples h)) (optionals h))
+from_nothing g h rows =
+    rows_then g (walk h) (joined (Join (Bgp []) (Bgp (triples h))) (optionals h)) (joined (Bgp (triples h)) (optionals h)) rows
+    (joined_same g (Join (Bgp []) (Bgp (triples h))) (Bgp (triples h)) (optionals h) (nothing_joined (IsBgpRow g (triples h))))
+
 -- the rest of a group after a and the block ps: all blocks that are still to come, and then the OPTIONALs
 rest_rows : (g : List Statement) (h : Group) (early above beside : List Name) (a : Alg) (ps : List Pattern) → Binding g (Join a (Bgp ps)) early
     → ((v : Name) → In early v → In above v) → ((v : Name) → In (all_vars (triples h)) v → In above v) → AreDesignedEarly early above beside h → HasPlainOptionals h
@@ -163,9 +169,7 @@ rest_rows g (also (Optional h) k) early above beside a ps all x y d plain =
     let es = map cond_expr (plain_tests h) in
     let step = LeftJoin (with_block a ps) (walk h) (filters h) in
     let inner : SameRows g (walk h) (body t) =
-    rows_then g (walk h) (joined (Join (Bgp []) (Bgp (triples h))) (optionals h)) (body t)
-    (rest_rows g h [] (above ++ all_vars (triples h)) beside (Bgp []) [] (no_binding g (Join (Bgp []) (Bgp []))) (λ v j. absurd j) (λ v j. in_right above _ v j) d.1 plain.1)
-    (joined_same g (Join (Bgp []) (Bgp (triples h))) (Bgp (triples h)) (optionals h) (nothing_joined (IsBgpRow g (triples h)))) in
+    from_nothing g h (rest_rows g h [] (above ++ all_vars (triples h)) beside (Bgp []) [] (no_binding g (Join (Bgp []) (Bgp []))) (λ v j. absurd j) (λ v j. in_right above _ v j) d.1 plain.1) in
     let here : SameRows g step (LeftJoin (Join a (Bgp ps)) (body t) es) =
     left_same (IsRow g (with_block a ps)) (IsRow g (walk h)) (IsRow g (Join a (Bgp ps))) (IsRow g (body t)) (filters h) es (block_rows g a ps) inner (optional_tests h plain.0) in
     let binding : Binding g step early =
@@ -178,18 +182,11 @@ rest_rows g (also (Optional h) k) early above beside a ps all x y d plain =
     (λ v j. in_left above beside v (y v j)))))
 rest_rows g (also (Filter e) k) early above beside a ps all x y d plain = rest_rows g k early above beside a ps all x y d plain
 
--- the whole group, from the pattern of no triples on
-walk_rows : (g : List Statement) (h : Group) (above beside : List Name) → ((v : Name) → In (all_vars (triples h)) v → In above v) → AreDesignedEarly [] above beside h → HasPlainOptionals h
-    → SameRows g (walk h) (joined (Bgp (triples h)) (optionals h))
-walk_rows g h above beside y d plain =
-    rows_then g (walk h) (joined (Join (Bgp []) (Bgp (triples h))) (optionals h)) (joined (Bgp (triples h)) (optionals h))
-    (rest_rows g h [] above beside (Bgp []) [] (no_binding g (Join (Bgp []) (Bgp []))) (λ v j. absurd j) y d plain)
-    (joined_same g (Join (Bgp []) (Bgp (triples h))) (Bgp (triples h)) (optionals h) (nothing_joined (IsBgpRow g (triples h))))
-
 -- with the FILTERs of the outermost group, and restricted to what is selected
 pub written_answers : (g : List Statement) (w : Written) (m : Mapping) → IsDesignedEarly w → HasPlainOptionals w.group → IsWrittenAnswer g w m ↔ IsAnswer g (gather w).vars (alg (gather w)) m
 written_answers g w m d plain =
-    let rows = walk_rows g w.group (all_vars (triples w.group)) [] (λ v j. j) d.below plain in (
+    let rows = from_nothing g w.group
+    (rest_rows g w.group [] (all_vars (triples w.group)) [] (Bgp []) [] (no_binding g (Join (Bgp []) (Bgp []))) (λ v j. absurd j) (λ v j. j) d.below plain) in (
       (λ h. (h.0, ((rows h.0).0 h.1.0, (whole_tests w.group h.0).0 h.1.1), h.2)),
       (λ h. (h.0, ((rows h.0).1 h.1.0, (whole_tests w.group h.0).1 h.1.1), h.2)),
     )

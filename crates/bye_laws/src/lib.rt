@@ -19,7 +19,7 @@ ghost use Rattle.bye_laws.specs.Ordering.{OnePattern, SortedListsAreOneAndThere}
 ghost use Rattle.bye_laws.specs.DomainNodes.{DomainNodesAreTold, DomainTreesByDepth};
 ghost use Rattle.bye_laws.specs.Strongest.{StrongestNodes};
 ghost use Rattle.bye_laws.specs.Beginning.{StartsAreThereAndOne};
-ghost use Rattle.bye_laws.specs.Written.{BrokenOrDesignedEarly, EarlyIsDesigned, WrittenAnswers};
+ghost use Rattle.bye_laws.specs.Written.{BrokenOrDesignedEarly, EarlyIsDesigned, GatheredSelects, WrittenAnswers};
 
 /// A row of a query over a well-designed tree is told by the nodes that it reaches and by the further expressions of the root
 /// (SPARQL 1.1 Query, section 18.5).
@@ -196,4 +196,9 @@ pub fn written_answers()
 /// A written query keeps the rules by what stands before each OPTIONAL, or one node is the first that breaks one.
 pub fn broken_or_designed_early()
     ensures { BrokenOrDesignedEarly }
+{}
+
+/// What a written query selects, and what is left of its FILTERs beside the conditions of the root.
+pub fn gathered_selects()
+    ensures { GatheredSelects }
 {}

@@ -1,5 +1,5 @@
 -- The worked examples of written queries.
-use Rattle.std.proofs.Common.{◌≡◌, refl, Bool, true, false, cond, List, [], ◌∷◌, ◌++◌, Option, Some, None, ◌⊎◌, inl, inr, ⊎_elim, sym, ◌∙◌, ap, subst, codes}
+use Rattle.std.proofs.Common.{◌≡◌, refl, Bool, true, false, cond, List, [], ◌∷◌, ◌++◌, Option, Some, inl, inr, ⊎_elim, sym, ◌∙◌, ap, subst, codes}
 use Rattle.std.specs.Str.{bytes_eq}
 use Rattle.bye_terms.specs.declared.term.Term.{Term}
 use Rattle.bye_terms.specs.Members.{In}
@@ -10,10 +10,10 @@ use Rattle.bye_pattern.specs.declared.cond.Cond.TheVariants as conds
 use Rattle.bye_pattern.specs.declared.rule.Rule.{Rule}
 use Rattle.bye_pattern.specs.declared.rule.Rule.TheVariants.{NoNewVariable, NoTriples, NotWellDesigned, UnsafeCondition}
 use Rattle.bye_pattern.specs.declared.slot.Slot.TheVariants.{Const, Var}
-use Rattle.bye_pattern.specs.Patterns.{Pattern, all_vars}
-use Rattle.bye_pattern.specs.Algebra.{Extends, IsBgpRow, IsRow}
+use Rattle.bye_pattern.specs.Patterns.{Pattern}
+use Rattle.bye_pattern.specs.Algebra.{IsBgpRow}
 use Rattle.bye_pattern.specs.Designed.{Keeps}
-use Rattle.bye_pattern.specs.Worked.{a, b, has_mail, kind, knows, m, mail, pattern, people, person, text, w, x, y}
+use Rattle.bye_pattern.specs.Worked.{a, b, has_mail, knows, m, mail, pattern, people, person, text, w, x, y}
 use Rattle.bye_pattern.specs.WorkedWritten.{BlocksAfterOptionals, RulesByPlace, SplitFilters, has_kind, t, without_mail}
 use Rattle.bye_pattern.proofs.OneGroup.{root_rules}
 use Rattle.bye_pattern.proofs.Solutions.{meets_row, row_meets}

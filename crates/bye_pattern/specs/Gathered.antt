@@ -1,6 +1,6 @@
 -- The select that a written query is read as: each group becomes a node with the triples of all its blocks (SPARQL 1.1 Query, section
 -- 18.2.2, collects the FILTERs of a group in the same way), and the four rules of well-designed trees for groups as they are written.
-use Rattle.std.specs.Prelude.{◌≡◌, ℕ, ◌+◌, Bool, not, cond, List, [], ◌∷◌, ◌++◌, Option, Some, None, IsSome, is_some, ◌⊎◌}
+use Rattle.std.specs.Prelude.{◌≡◌, ℕ, ◌+◌, not, cond, List, [], ◌∷◌, ◌++◌, Option, Some, None, IsSome, is_some, ◌⊎◌}
 use Rattle.std.specs.List.{AllByRecursion, filter, filter_map, flat_map, list_all}
 use Rattle.std.specs.Str.{bytes_eq}
 use Rattle.bye_terms.specs.Terms.{Statement}
@@ -10,7 +10,7 @@ use Rattle.bye_pattern.specs.declared.cond.Cond.{Cond}
 use Rattle.bye_pattern.specs.declared.cond.Cond.TheVariants as conds
 use Rattle.bye_pattern.specs.declared.rule.Rule.{Rule}
 use Rattle.bye_pattern.specs.Patterns.{Pattern, all_vars}
-use Rattle.bye_pattern.specs.Conditions.{Expr, IsBound, Same, KindOf, Not, And, Or, cond_vars}
+use Rattle.bye_pattern.specs.Conditions.{Expr, IsBound, Same, KindOf, And, cond_vars}
 use Rattle.bye_pattern.specs.Algebra.{IsAnswer}
 use Rattle.bye_pattern.specs.Trees.{Tree, node, Forest, leaf, more, Select, tree_vars}
 use Rattle.bye_pattern.specs.Designed.{Keeps, IsFirstBroken, rules}
