@@ -19,7 +19,7 @@ ghost use Rattle.bye_laws.specs.Ordering.{OnePattern, SortedListsAreOneAndThere}
 ghost use Rattle.bye_laws.specs.DomainNodes.{DomainNodesAreTold, DomainTreesByDepth};
 ghost use Rattle.bye_laws.specs.Strongest.{StrongestNodes};
 ghost use Rattle.bye_laws.specs.Beginning.{StartsAreThereAndOne};
-ghost use Rattle.bye_laws.specs.Written.{BrokenOrDesignedEarly, EarlyIsDesigned, GatheredSelects, WrittenAnswers};
+ghost use Rattle.bye_laws.specs.Written.{BrokenOrDesignedEarly, EarlyIsDesigned, GatheredSelects, ReadBack, WrittenAnswers};
 
 /// A row of a query over a well-designed tree is told by the nodes that it reaches and by the further expressions of the root
 /// (SPARQL 1.1 Query, section 18.5).
@@ -201,4 +201,9 @@ pub fn broken_or_designed_early()
 /// What a written query selects, and what is left of its FILTERs beside the conditions of the root.
 pub fn gathered_selects()
     ensures { GatheredSelects }
+{}
+
+/// The query as which a select is written is read as this select, and keeps the rules.
+pub fn read_back()
+    ensures { ReadBack }
 {}
