@@ -15,11 +15,6 @@ use Rattle.bye_pattern.specs.Gathered.{AreDesignedEarly, BreaksEarly, BreaksHere
 use Rattle.bye_pattern.proofs.FourRules.{broken_not_kept, first_or_all, in_rules, keeps_or_not, one_broken}
 
 -- the variables of two lists of triple patterns
-pub vars_cases : (ps qs : List Pattern) (v : Name) → In (all_vars (ps ++ qs)) v → In (all_vars ps) v ⊎ In (all_vars qs) v
-vars_cases [] qs v h = inr h
-vars_cases (p ∷ ps) qs v h =
-    ⊎_elim (λ k. inl (in_left (vars p) _ v k)) (λ k. ⊎_elim (λ j. inl (in_right (vars p) _ v j)) (λ j. inr j) (vars_cases ps qs v k)) (in_cases (vars p) _ v h)
-
 pub vars_left : (ps qs : List Pattern) (v : Name) → In (all_vars ps) v → In (all_vars (ps ++ qs)) v
 vars_left [] qs v h = absurd h
 vars_left (p ∷ ps) qs v h = ⊎_elim (λ k. in_left (vars p) _ v k) (λ k. in_right (vars p) _ v (vars_left ps qs v k)) (in_cases (vars p) _ v h)

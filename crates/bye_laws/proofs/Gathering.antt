@@ -4,7 +4,7 @@ use Rattle.std.specs.Str.{bytes_eq}
 use Rattle.std.proofs.lemmas.Slice.Eq.{bytes_eq-Decides}
 use Rattle.bye_terms.specs.Members.{EachOnce, In}
 use Rattle.bye_terms.proofs.Lists.{filtered, filtered_once, in_filtered, of_each}
-use Rattle.bye_terms.proofs.Members.{in_cases, in_flat}
+use Rattle.bye_terms.proofs.Members.{all_from, in_cases, in_flat}
 use Rattle.bye_terms.proofs.Tests.{bool_cases, not_both, not_true}
 use Rattle.bye_table.specs.Mappings.{Name, is_in}
 use Rattle.bye_table.proofs.Merging.{in_is}
@@ -13,7 +13,7 @@ use Rattle.bye_pattern.specs.Patterns.{all_vars}
 use Rattle.bye_pattern.specs.Conditions.{And, Expr, IsBound, KindOf, Not, Or, Same, cond_vars}
 use Rattle.bye_pattern.specs.Trees.{tree_vars}
 use Rattle.bye_pattern.specs.Written.{Written, filters, triples}
-use Rattle.bye_pattern.specs.Gathered.{conjuncts, firsts, gather, gathered_tree, plain, root_test, selected, tests, within}
+use Rattle.bye_pattern.specs.Gathered.{IsOuter, conjuncts, firsts, gather, gathered_tree, outer_tests, plain, root_test, selected, tests, within}
 use Rattle.bye_laws.specs.Written.{GatheredSelects}
 
 -- each name once
@@ -52,10 +52,13 @@ conjunct_one (Not e) d h = one_conjunct (Not e) d refl h
 conjunct_one (Or a b) d h = one_conjunct (Or a b) d refl h
 
 -- what is outer is no plain condition over the root's variables
-within_all : (own : List Name) (c : Cond) → ((v : Name) → In (cond_vars c) v → In own v) → within own (Some c) ≡ Some c
+pub within_all : (own : List Name) (c : Cond) → ((v : Name) → In (cond_vars c) v → In own v) → within own (Some c) ≡ Some c
 within_all own c all = ap (λ b. cond b (Some c) None) (of_each (is_in own) (cond_vars c) (λ v h. in_is own v (all v h)))
 
-not_outer : (own : List Name) (e : Expr) (c : Cond) → plain e ≡ Some c → ((v : Name) → In (cond_vars c) v → In own v) → not (is_some (root_test own e)) ≡ true → ⊥
+abbrev is_other : List Name → Expr → Bool
+is_other own e = not (is_some (root_test own e))
+
+not_outer : (own : List Name) (e : Expr) (c : Cond) → plain e ≡ Some c → ((v : Name) → In (cond_vars c) v → In own v) → is_other own e ≡ true → ⊥
 not_outer own e c h all out =
     let there : root_test own e ≡ Some c = ap (within own) h ∙ within_all own c all in
     not_both (is_some (root_test own e)) (ap is_some there) (not_true (is_some (root_test own e)) out)
@@ -71,6 +74,8 @@ gathered_selects = record {
     (λ k. firsts_in (tree_vars (gather w).tree) v (subst (λ vs. In vs v) (all_selected w h) k)),
     (λ k. subst (λ vs. In vs v) (sym (all_selected w h)) (in_firsts (tree_vars (gather w).tree) v k)),
   );
-  split = λ w e h. let k = in_flat conjuncts (filters w.group) e (filtered _ (tests w.group) e h).0 in conjunct_one k.0 e k.2;
-  outer = λ w e c h is all. not_outer (all_vars (triples w.group)) e c is all (filtered _ (tests w.group) e h).1;
+  outer = λ w. all_from (IsOuter (all_vars (triples w.group))) (outer_tests w.group) (λ e h.
+      let k = filtered (is_other (all_vars (triples w.group))) (tests w.group) e h in
+      let one = in_flat conjuncts (filters w.group) e k.0 in
+      (conjunct_one one.0 e one.2, λ c is all. not_outer (all_vars (triples w.group)) e c is all k.1));
 }

@@ -2,6 +2,7 @@ pub mod Telling
 pub mod Commuting
 pub mod Conjoined
 pub mod Gathering
+pub mod ReadingBack
 pub mod EarlyRules
 pub mod Withins
 pub mod Reached

@@ -1,15 +1,15 @@
 -- Queries of the classes, and what written queries are read as, are SELECTs of the program.
 use Rattle.std.proofs.Common.{◌≡◌, refl, Bool, true, false, List, [], ◌∷◌, Option, Some, None, ⊎_elim, sym, ◌∙◌, subst}
+use Rattle.std.specs.List.{AllByRecursion}
 use Rattle.bye_terms.specs.Members.{EachOnce, In}
 use Rattle.bye_table.specs.Mappings.{Mapping, Name}
 use Rattle.bye_pattern.specs.declared.level.Level.{Level}
 use Rattle.bye_pattern.specs.declared.rule.Rule.TheVariants.{NoNewVariable}
 use Rattle.bye_pattern.specs.Classes.{InAnd}
-use Rattle.bye_pattern.specs.Conditions.{Expr}
-use Rattle.bye_pattern.specs.Gathered.{IsDesignedEarly, gather, selected}
+use Rattle.bye_pattern.specs.Gathered.{IsDesignedEarly, IsOuter, gather, selected}
 use Rattle.bye_pattern.specs.Optional.{InOptional}
 use Rattle.bye_pattern.specs.Selects.{IsSelect}
-use Rattle.bye_pattern.specs.Trees.{Select, tree_vars}
+use Rattle.bye_pattern.specs.Trees.{Select, own_vars, tree_vars}
 use Rattle.bye_pattern.specs.Written.{Written}
 use Rattle.bye_laws.proofs.ByNodes.{self_node}
 use Rattle.bye_laws.proofs.Conjunctions.{group_of}
@@ -26,10 +26,6 @@ not_empty vs v h e = subst (λ (vs : List Name). In vs v) e h
 never_whole : {A : Type 0} (b : Bool) → b ≡ true → b ≡ false → A
 never_whole b e f = let k : true ≡ false = sym e ∙ f in cc
 
--- an expression of none
-never_outer : {A : Type 0} (es : List Expr) (e : Expr) → es ≡ [] → In es e → A
-never_outer es e none h = absurd (subst (λ (es : List Expr). In es e) none h)
-
 -- a query of one conjunction
 pub conjunction_select : (level : Level) (q : Select) → InAnd level q → IsSelect q
 conjunction_select level q class =
@@ -39,8 +35,7 @@ conjunction_select level q class =
       once = class.once;
       designed = class.designed;
       whole = λ e. never_whole q.distinct class.distinct e;
-      split = λ e h. never_outer q.outer e class.outer h;
-      outer = λ e c h. never_outer q.outer e class.outer h;
+      outer = subst (AllByRecursion (IsOuter (own_vars q.tree))) (sym class.outer) tt;
     }
 
 -- one with OPTIONAL groups
@@ -53,8 +48,7 @@ optional_select level rows q class =
       once = class.once;
       designed = class.designed;
       whole = λ e. never_whole q.distinct class.distinct e;
-      split = λ e h. never_outer q.outer e class.outer h;
-      outer = λ e c h. never_outer q.outer e class.outer h;
+      outer = subst (AllByRecursion (IsOuter (own_vars q.tree))) (sym class.outer) tt;
     }
 
 -- what is selected of a written query
@@ -79,6 +73,5 @@ written_select w early named whole =
       once = vars.1;
       designed = whole_designed w early;
       whole = whole;
-      split = gathered_selects.split w;
       outer = gathered_selects.outer w;
     }

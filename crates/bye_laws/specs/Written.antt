@@ -3,18 +3,18 @@ use Rattle.bye_pattern.specs.Selects.{IsSelect}
 use Rattle.bye_pattern.specs.Optional.{InOptional}
 use Rattle.bye_pattern.specs.Classes.{InAnd}
 use Rattle.bye_pattern.specs.declared.level.Level.{Level}
-use Rattle.std.specs.Prelude.{◌≡◌, ℕ, List, [], ◌∷◌, Some, None, ◌⊎◌, ◌↔◌, false}
+use Rattle.std.specs.Prelude.{◌≡◌, ℕ, List, None, ◌⊎◌, ◌↔◌, [], Some, false}
+use Rattle.std.specs.List.{AllByRecursion}
 use Rattle.bye_terms.specs.Terms.{Statement}
 use Rattle.bye_terms.specs.Members.{EachOnce, In}
 use Rattle.bye_table.specs.Mappings.{Mapping, Name}
-use Rattle.bye_pattern.specs.declared.cond.Cond.{Cond}
 use Rattle.bye_pattern.specs.declared.rule.Rule.{Rule}
 use Rattle.bye_pattern.specs.Algebra.{IsAnswer}
-use Rattle.bye_pattern.specs.Conditions.{Expr, cond_vars}
-use Rattle.bye_pattern.specs.Trees.{alg, own_vars, tree_vars, Select}
+use Rattle.bye_pattern.specs.Trees.{Select, alg, own_vars, tree_vars}
 use Rattle.bye_pattern.specs.Designed.{IsWellDesigned}
 use Rattle.bye_pattern.specs.Written.{Written}
-use Rattle.bye_pattern.specs.Gathered.{HasPlainOptionals, IsBrokenEarly, IsDesignedEarly, IsWrittenAnswer, conjuncts, gather, plain}
+use Rattle.bye_pattern.specs.Gathered.{HasPlainOptionals, IsBrokenEarly, IsDesignedEarly, IsOuter, IsWrittenAnswer, gather}
+use Rattle.bye_pattern.specs.AsWritten.{as_written}
 
 -- a written query that keeps the rules, by what stands before each OPTIONAL, has a well-designed tree
 abbrev pub EarlyIsDesigned : Type 0
@@ -36,9 +36,14 @@ pub record GatheredSelects : Type 0 where
   -- `*` selects each variable of the tree's triples, once
   pub once : (w : Written) → w.vars ≡ None → EachOnce (gather w).vars
   pub all : (w : Written) (v : Name) → w.vars ≡ None → In (gather w).vars v ↔ In (tree_vars (gather w).tree) v
-  -- no outer expression is a conjunction, or a plain condition whose variables all occur in the root's triples
-  pub split : (w : Written) (e : Expr) → In (gather w).outer e → conjuncts e ≡ e ∷ []
-  pub outer : (w : Written) (e : Expr) (c : Cond) → In (gather w).outer e → plain e ≡ Some c → ((v : Name) → In (cond_vars c) v → In (own_vars (gather w).tree) v) → ⊥
+  -- each outer expression is one conjunct, and no plain condition whose variables all occur in the root's triples
+  pub outer : (w : Written) → AllByRecursion (IsOuter (own_vars (gather w).tree)) (gather w).outer
+
+-- the query as which a SELECT of the program is written is read as this SELECT, and keeps the rules; its FILTERs are of the grammar's form
+pub record ReadBack : Type 0 where
+  pub gathers : (q : Select) → IsSelect q → gather (as_written q) ≡ q
+  pub designed : (q : Select) → IsSelect q → IsDesignedEarly (as_written q)
+  pub plain : (q : Select) → HasPlainOptionals (as_written q).group
 
 -- what is learned, and what a written query that keeps the rules is read as, is a SELECT of the program: it selects a variable and
 -- none twice, and all of the tree's without DISTINCT

@@ -19,7 +19,7 @@ ghost use Rattle.bye_laws.specs.Ordering.{OnePattern, SortedListsAreOneAndThere}
 ghost use Rattle.bye_laws.specs.DomainNodes.{DomainNodesAreTold, DomainTreesByDepth};
 ghost use Rattle.bye_laws.specs.Strongest.{StrongestNodes};
 ghost use Rattle.bye_laws.specs.Beginning.{StartsAreThereAndOne};
-ghost use Rattle.bye_laws.specs.Written.{BrokenOrDesignedEarly, EarlyIsDesigned, GatheredSelects, ReadAsSelects, WrittenAnswers};
+ghost use Rattle.bye_laws.specs.Written.{BrokenOrDesignedEarly, EarlyIsDesigned, GatheredSelects, ReadAsSelects, ReadBack, WrittenAnswers};
 
 /// A row of a query over a well-designed tree is told by the nodes that it reaches and by the further expressions of the root
 /// (SPARQL 1.1 Query, section 18.5).
@@ -211,4 +211,9 @@ pub fn read_as_selects()
 /// The first claim of a class shows, is there where any claim of the class shows, and is one but for the values of an extension.
 pub fn first_claims()
     ensures { FirstClaims }
+{}
+
+/// The query as which a select is written is read as this select, and keeps the rules.
+pub fn read_back()
+    ensures { ReadBack }
 {}

@@ -14,6 +14,7 @@ pub mod TableTexts
 pub mod WorkedTerms
 pub mod WorkedAnswers
 pub mod WorkedGroups
+pub mod WorkedPlaces
 pub mod WorkedOptional
 pub mod WorkedKept
 pub mod WorkedClaims

@@ -19,13 +19,13 @@ use Rattle.bye_pattern.proofs.Solutions.{row_meets, meets_row}
 use Rattle.bye_pattern.proofs.OneGroup.{root_rules}
 use Rattle.bye_pattern.proofs.WorkedTerms.{differ, values_differ, row_exactly, longer_agrees, longer_merges}
 
-abbrev m1 : Term
+abbrev pub m1 : Term
 m1 = text (codes "m1")
 
 abbrev alone : Term → Mapping
 alone t = row_mapping ((x, t) ∷ [])
 
-abbrev mailed : Mapping
+abbrev pub mailed : Mapping
 mailed = row_mapping ((x, a) ∷ (m, m1) ∷ [])
 
 a_is_person : IsBgpRow people (is_person (Var x) ∷ []) (alone a)
@@ -34,7 +34,7 @@ a_is_person = meets_row people (is_person (Var x) ∷ []) (alone a) (row_exactly
 b_is_person : IsBgpRow people (is_person (Var x) ∷ []) (alone b)
 b_is_person = meets_row people (is_person (Var x) ∷ []) (alone b) (row_exactly ((x, b) ∷ [])) ((_, inr (inl refl), record { s = refl; p = refl; o = refl }), tt)
 
-a_has_mail : IsBgpRow people (has_mail ∷ []) mailed
+pub a_has_mail : IsBgpRow people (has_mail ∷ []) mailed
 a_has_mail = meets_row people (has_mail ∷ []) mailed (row_exactly ((x, a) ∷ (m, m1) ∷ [])) ((_, inr (inr (inl refl)), record { s = refl; p = refl; o = refl }), tt)
 
 -- who has a mail address is a

@@ -1,5 +1,5 @@
 -- The worked examples of written queries.
-use Rattle.std.proofs.Common.{◌≡◌, refl, Bool, true, false, cond, List, [], ◌∷◌, ◌++◌, Option, Some, inl, inr, ⊎_elim, sym, ◌∙◌, ap, subst, codes}
+use Rattle.std.proofs.Common.{◌≡◌, refl, Bool, true, false, cond, List, [], ◌∷◌, ◌++◌, Option, Some, inl, inr, ⊎_elim, sym, ◌∙◌, ap, subst}
 use Rattle.std.specs.Str.{bytes_eq}
 use Rattle.bye_terms.specs.declared.term.Term.{Term}
 use Rattle.bye_terms.specs.Members.{In}
@@ -13,11 +13,11 @@ use Rattle.bye_pattern.specs.declared.slot.Slot.TheVariants.{Const, Var}
 use Rattle.bye_pattern.specs.Patterns.{Pattern}
 use Rattle.bye_pattern.specs.Algebra.{IsBgpRow}
 use Rattle.bye_pattern.specs.Designed.{Keeps}
-use Rattle.bye_pattern.specs.Worked.{a, b, has_mail, knows, m, mail, pattern, people, person, text, w, x, y}
+use Rattle.bye_pattern.specs.Worked.{a, b, has_mail, knows, m, mail, pattern, people, person, w, x, y}
 use Rattle.bye_pattern.specs.WorkedWritten.{BlocksAfterOptionals, RulesByPlace, SplitFilters, has_kind, t, without_mail}
 use Rattle.bye_pattern.proofs.OneGroup.{root_rules}
 use Rattle.bye_pattern.proofs.Solutions.{meets_row, row_meets}
-use Rattle.bye_pattern.proofs.WorkedAnswers.{mail_of_a}
+use Rattle.bye_pattern.proofs.WorkedAnswers.{m1, mail_of_a}
 use Rattle.bye_pattern.proofs.WorkedTerms.{differ, only_name, row_exactly, values_differ}
 
 -- a row of two parts is their merge
@@ -25,14 +25,11 @@ first_then : (h : Bool) (u : Term) (o p : Option Term) → cond h (Some u) (firs
 first_then true u o p = refl
 first_then false u o p = refl
 
-parts_merge : (r s : Pairs) (v : Name) → row_mapping (r ++ s) v ≡ merge (row_mapping r) (row_mapping s) v
+pub parts_merge : (r s : Pairs) (v : Name) → row_mapping (r ++ s) v ≡ merge (row_mapping r) (row_mapping s) v
 parts_merge [] s v = refl
 parts_merge (e ∷ r) s v = ap (cond (bytes_eq e.0 v) (Some e.1)) (parts_merge r s v) ∙ first_then (bytes_eq e.0 v) e.1 (row_mapping r v) (row_mapping s v)
 
-abbrev m1 : Term
-m1 = text (codes "m1")
-
-abbrev mail_m1 : Pattern
+abbrev pub mail_m1 : Pattern
 mail_m1 = pattern (Var y) (Const mail) (Const m1)
 
 abbrev b_kind : Mapping
@@ -42,7 +39,7 @@ b_kind = row_mapping ((x, b) ∷ (t, person) ∷ [])
 b_has_kind : IsBgpRow people (has_kind ∷ []) b_kind
 b_has_kind = meets_row people (has_kind ∷ []) b_kind (row_exactly ((x, b) ∷ (t, person) ∷ [])) ((_, inr (inl refl), record { s = refl; p = refl; o = refl }), tt)
 
-a_has_m1 : IsBgpRow people (mail_m1 ∷ []) (row_mapping ((y, a) ∷ []))
+pub a_has_m1 : IsBgpRow people (mail_m1 ∷ []) (row_mapping ((y, a) ∷ []))
 a_has_m1 = meets_row people (mail_m1 ∷ []) (row_mapping ((y, a) ∷ [])) (row_exactly ((y, a) ∷ [])) ((_, inr (inr (inl refl)), record { s = refl; p = refl; o = refl }), tt)
 
 both : IsBgpRow people (has_kind ∷ mail_m1 ∷ []) without_mail
@@ -57,7 +54,7 @@ no_mail n r is_b row same =
     values_differ b a refl (ap Some (same x b a is_b is_a))
 
 -- the two parts of the row bind different variables
-not_y : (v : Name) → In (x ∷ t ∷ []) v → y ≡ v → ⊥
+pub not_y : (v : Name) → In (x ∷ t ∷ []) v → y ≡ v → ⊥
 not_y v (inl e) h = differ x y refl (e ∙ sym h)
 not_y v (inr (inl e)) h = differ t y refl (e ∙ sym h)
 not_y v (inr (inr k)) h = k
@@ -76,7 +73,7 @@ whole : without_mail ≡ restrict (x ∷ t ∷ y ∷ m ∷ []) without_mail
 whole = restrict_within (x ∷ t ∷ y ∷ m ∷ []) without_mail (λ v h. in_all v ((row_exactly ((x, b) ∷ (t, person) ∷ (y, a) ∷ []) v).0 h))
 
 -- the OPTIONAL brings a variable that no block of its parent has
-no_m : In (x ∷ t ∷ y ∷ []) m → ⊥
+pub no_m : In (x ∷ t ∷ y ∷ []) m → ⊥
 no_m (inl e) = differ x m refl e
 no_m (inr (inl e)) = differ t m refl e
 no_m (inr (inr (inl e))) = differ y m refl e
@@ -133,14 +130,14 @@ tree_rules NoNewVariable = new_m
 tree_rules NotWellDesigned = ((λ v h above. above), λ v new k. k)
 tree_rules UnsafeCondition = ((λ v h. inr (inr (inr h))), tt)
 
-no_w : In (x ∷ t ∷ y ∷ m ∷ []) w → ⊥
+pub no_w : In (x ∷ t ∷ y ∷ m ∷ []) w → ⊥
 no_w (inl e) = differ x w refl e
 no_w (inr (inl e)) = differ t w refl e
 no_w (inr (inr (inl e))) = differ y w refl e
 no_w (inr (inr (inr (inl e)))) = differ m w refl e
 no_w (inr (inr (inr (inr k)))) = k
 
-abbrev two : List Pattern
+abbrev pub two : List Pattern
 two = has_mail ∷ pattern (Var x) (Const knows) (Var w) ∷ []
 
 new_w : Keeps [] (x ∷ t ∷ y ∷ m ∷ []) [] two [] NoNewVariable

@@ -3,6 +3,7 @@
 use Rattle.std.specs.Prelude.{◌≡◌, ℕ, ◌+◌, not, cond, List, [], ◌∷◌, ◌++◌, Option, Some, None, IsSome, is_some, ◌⊎◌}
 use Rattle.std.specs.List.{AllByRecursion, filter, filter_map, flat_map, list_all}
 use Rattle.std.specs.Str.{bytes_eq}
+use Rattle.bye_terms.specs.Members.{In}
 use Rattle.bye_terms.specs.Terms.{Statement}
 use Rattle.bye_table.specs.Mappings.{Name, Mapping, is_in}
 use Rattle.bye_pattern.specs.declared.slot.Slot.TheVariants.{Var, Const}
@@ -65,6 +66,10 @@ root_tests g = filter_map (root_test (all_vars (triples g))) (tests g)
 -- the other conjuncts are outer expressions
 abbrev pub outer_tests : Group → List Expr
 outer_tests g = filter (λ e. not (is_some (root_test (all_vars (triples g)) e))) (tests g)
+
+-- an outer expression is one conjunct, and no plain condition whose variables are all the root's own
+abbrev pub IsOuter : List Name → Expr → Type 0
+IsOuter own e = (conjuncts e ≡ e ∷ []) × ((c : Cond) → plain e ≡ Some c → ((v : Name) → In (cond_vars c) v → In own v) → ⊥)
 
 -- the tree of the outermost group
 abbrev pub gathered_tree : Group → Tree

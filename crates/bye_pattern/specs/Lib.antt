@@ -5,6 +5,7 @@ pub mod Trees
 pub mod Written
 pub mod Designed
 pub mod Gathered
+pub mod AsWritten
 pub mod Selects
 pub mod Nodes
 pub mod Conjuncts

@@ -1,5 +1,6 @@
 -- Worked examples of written queries: triples after an OPTIONAL, what they make of the rules, and FILTERs that are split.
 use Rattle.std.specs.Prelude.{◌≡◌, List, [], ◌∷◌, true, None, codes}
+use Rattle.bye_terms.specs.Terms.{Statement}
 use Rattle.bye_table.specs.Mappings.{Name, Mapping, row_mapping}
 use Rattle.bye_pattern.specs.declared.slot.Slot.TheVariants.{Var, Const}
 use Rattle.bye_pattern.specs.declared.cond.Cond.TheVariants as conds
@@ -12,7 +13,7 @@ use Rattle.bye_pattern.specs.Trees.{node, leaf, more, alg}
 use Rattle.bye_pattern.specs.Designed.{IsWellDesigned}
 use Rattle.bye_pattern.specs.Written.{Element, Block, Optional, Filter, Written, group_of}
 use Rattle.bye_pattern.specs.Gathered.{IsDesignedEarly, IsBrokenEarly, IsWrittenAnswer, gather}
-use Rattle.bye_pattern.specs.Worked.{x, y, w, m, a, b, person, kind, mail, knows, text, pattern, people, has_mail}
+use Rattle.bye_pattern.specs.Worked.{x, y, w, m, a, b, c, person, kind, mail, knows, text, triple, pattern, people, has_mail}
 
 abbrev pub t : Name
 t = codes "t"
@@ -57,6 +58,24 @@ pub record RulesByPlace : Type 0 where
   pub unsafe : IsBrokenEarly looks_ahead (1 ∷ []) UnsafeCondition
   pub designed_tree : IsWellDesigned (gather comes_again).tree
   pub not_designed : IsBrokenEarly comes_again (1 ∷ []) NotWellDesigned
+
+-- a person who has a mail address and knows somebody, and a further mail address
+abbrev pub two_mails : List Statement
+two_mails = triple a kind person ∷ triple a mail (text (codes "m1")) ∷ triple a knows b ∷ triple c mail (text (codes "m3")) ∷ []
+
+abbrev pub not_extended : Mapping
+not_extended = row_mapping ((x, a) ∷ (t, person) ∷ (y, a) ∷ [])
+
+abbrev pub other_mail : Mapping
+other_mail = row_mapping ((x, a) ∷ (t, person) ∷ (y, c) ∷ (m, text (codes "m3")) ∷ [])
+
+-- The rules by place are needed: of these two queries, as they are written, the answers are not those of their trees. In the first
+-- ?y is not bound yet where the FILTER looks at it; in the second the OPTIONAL has bound ?m before the later block is met.
+pub record PlaceMatters : Type 0 where
+  pub filter_too_early : IsWrittenAnswer people looks_ahead not_extended
+  pub filter_in_tree : IsAnswer people (gather looks_ahead).vars (alg (gather looks_ahead)) not_extended → ⊥
+  pub bound_in_tree : IsAnswer two_mails (gather comes_again).vars (alg (gather comes_again)) other_mail
+  pub bound_too_early : IsWrittenAnswer two_mails comes_again other_mail → ⊥
 
 -- FILTER (bound(?x) && isIRI(?x) && sameTerm(e:Person, ?t) && sameTerm(?m, "m1")) before the OPTIONAL that has ?m
 abbrev pub four_tests : Expr

@@ -45,6 +45,6 @@ pub use table_err::TableErr;
 pub use worked::{
     blocks_after_optionals, claims_of_admitted, claims_of_domains, claims_of_extension,
     claims_of_fork, claims_of_no_root, claims_of_uncovered, conditions_are_tried_first,
-    designed_trees, errors_drop_rows, optional_answers, optional_classes, rules_by_place,
-    split_filters, written_texts,
+    designed_trees, errors_drop_rows, optional_answers, optional_classes, place_matters,
+    rules_by_place, split_filters, written_texts,
 };

@@ -14,7 +14,7 @@ ghost use Rattle.bye_pattern.specs.Worked.{
   ClaimsOfAdmitted,
   ClaimsOfExtension,
 };
-ghost use Rattle.bye_pattern.specs.WorkedWritten.{BlocksAfterOptionals, RulesByPlace, SplitFilters};
+ghost use Rattle.bye_pattern.specs.WorkedWritten.{BlocksAfterOptionals, PlaceMatters, RulesByPlace, SplitFilters};
 
 /// The answers of a query with an OPTIONAL group over people with and without mail.
 pub fn optional_answers()
@@ -84,6 +84,11 @@ pub fn blocks_after_optionals()
 /// Two queries that break a rule because triples come after their OPTIONAL.
 pub fn rules_by_place()
     ensures { RulesByPlace }
+{}
+
+/// These two, as they are written, have other answers than their trees.
+pub fn place_matters()
+    ensures { PlaceMatters }
 {}
 
 /// A FILTER that is split into conditions of the root and an outer expression.
