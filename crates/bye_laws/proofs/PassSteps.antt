@@ -21,11 +21,14 @@ kept_on {X} Right all kept rest x p never = record {
   goes = λ r h.
       let same : (zs : List X) → (kept ++ x ∷ []) ++ zs ≡ kept ++ x ∷ zs = λ zs. append_assoc kept (x ∷ []) zs in
       subst (IsThinned Right all) (sym (same r))
-      (p.goes (x ∷ r) (inr (never, (
-        r,
-        thinned_map (λ zs. Right ((kept ++ x ∷ []) ++ zs)) (λ zs. Right (kept ++ x ∷ zs)) rest r (λ zs k. (subst Right (same zs), subst Right (sym (same zs)))) h,
-        refl,
-      ))));
+      (p.goes (x ∷ r) (inr (
+        never,
+        (
+          r,
+          thinned_map (λ zs. Right ((kept ++ x ∷ []) ++ zs)) (λ zs. Right (kept ++ x ∷ zs)) rest r (λ zs k. (subst Right (same zs), subst Right (sym (same zs)))) h,
+          refl,
+        ),
+      )));
 }
 
 -- at the end what is kept is what the pass leaves

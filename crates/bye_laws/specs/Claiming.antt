@@ -12,7 +12,22 @@ use Rattle.bye_pattern.specs.declared.class.Class.TheVariants.{And, Optional}
 use Rattle.bye_pattern.specs.declared.cond.Cond.{Cond}
 use Rattle.bye_pattern.specs.declared.level.Level.{Level}
 use Rattle.bye_pattern.specs.Certificates.{
-  Admitted, CertificateValue, Claim, Domains, Extension, Fork, IsShown, NoRoot, Shows, ShowsAdmitted, ShowsDomains, ShowsExtension, ShowsFork, ShowsNoRoot, ShowsUncovered, Uncovered,
+  Admitted,
+  CertificateValue,
+  Claim,
+  Domains,
+  Extension,
+  Fork,
+  IsShown,
+  NoRoot,
+  Shows,
+  ShowsAdmitted,
+  ShowsDomains,
+  ShowsExtension,
+  ShowsFork,
+  ShowsNoRoot,
+  ShowsUncovered,
+  Uncovered,
 }
 use Rattle.bye_pattern.specs.Fitting.{NoFit}
 use Rattle.bye_pattern.specs.Keeping.{IsOfClass}

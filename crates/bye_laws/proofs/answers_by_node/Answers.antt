@@ -1,5 +1,0 @@
-use Rattle.bye_laws.proofs.ByNodes.{by_node}
-use Rattle.bye_laws.proofs.answers_by_node.Goals as goal
-
-pub returns : goal.returns
-returns c = by_node

@@ -1,5 +1,0 @@
-use Rattle.bye_laws.proofs.FirstClaims.{enough}
-use Rattle.bye_laws.proofs.certificates_are_enough.Goals as goal
-
-pub returns : goal.returns
-returns c = enough

@@ -1,5 +1,0 @@
-use Rattle.bye_laws.proofs.DomainNodes.{nodes_told}
-use Rattle.bye_laws.proofs.domain_nodes_are_told.Goals as goal
-
-pub returns : goal.returns
-returns c = nodes_told

@@ -1,5 +1,0 @@
-use Rattle.bye_laws.proofs.EarlyRules.{whole_designed}
-use Rattle.bye_laws.proofs.early_is_designed.Goals as goal
-
-pub returns : goal.returns
-returns c = whole_designed

@@ -1,5 +1,0 @@
-use Rattle.bye_laws.proofs.AnyRight.{passes_keep_right}
-use Rattle.bye_laws.proofs.passes_keep_right.Goals as goal
-
-pub returns : goal.returns
-returns c = passes_keep_right

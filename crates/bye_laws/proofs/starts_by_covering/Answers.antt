@@ -1,5 +1,0 @@
-use Rattle.bye_laws.proofs.StartsRight.{by_covering}
-use Rattle.bye_laws.proofs.starts_by_covering.Goals as goal
-
-pub returns : goal.returns
-returns c = by_covering

@@ -1,5 +1,0 @@
-use Rattle.bye_laws.proofs.BothClasses.{start_fits}
-use Rattle.bye_laws.proofs.starts_fit_if_any.Goals as goal
-
-pub returns : goal.returns
-returns c = start_fits

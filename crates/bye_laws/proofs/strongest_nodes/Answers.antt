@@ -1,5 +1,0 @@
-use Rattle.bye_laws.proofs.StrongestAt.{strongest_nodes_told}
-use Rattle.bye_laws.proofs.strongest_nodes.Goals as goal
-
-pub returns : goal.returns
-returns c = strongest_nodes_told

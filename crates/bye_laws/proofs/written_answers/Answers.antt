@@ -1,5 +1,0 @@
-use Rattle.bye_laws.proofs.WrittenRows.{written_answers}
-use Rattle.bye_laws.proofs.written_answers.Goals as goal
-
-pub returns : goal.returns
-returns c = written_answers
