@@ -1,17 +1,17 @@
 -- Claims by the lists of a node, and the values of an extension in the table's order.
-use Rattle.std.proofs.Common.{◌≡◌, refl, ℕ, true, false, List, [], ◌∷◌, map, Option, Some, None, IsSome, ◌⊎◌, inl, inr, ⊎_elim, sym, ap, subst, ◌↔◌}
+use Rattle.std.proofs.Common.{◌≡◌, refl, ℕ, List, [], ◌∷◌, map, Option, Some, None, IsSome, ◌⊎◌, inl, inr, ⊎_elim, sym, subst, ◌↔◌}
 use Rattle.std.specs.List.{AllByRecursion}
 use Rattle.bye_terms.specs.declared.term.Term.{Term}
-use Rattle.bye_terms.specs.Members.{EachOnce, In}
+use Rattle.bye_terms.specs.Members.{In}
 use Rattle.bye_terms.specs.Terms.{Statement}
 use Rattle.bye_terms.proofs.Members.{all_from, all_in}
-use Rattle.bye_table.specs.Domains.{IsBefore, IsRowAt, IsSeen, IsWithin, Wanted}
+use Rattle.bye_table.specs.Domains.{IsBefore, IsRowAt, IsSeen, Wanted}
 use Rattle.bye_table.specs.Mappings.{Binds, Exactly, Mapping, Name, merge, row_mapping}
 use Rattle.bye_pattern.specs.declared.cond.Cond.{Cond}
 use Rattle.bye_pattern.specs.declared.cond.Cond.TheVariants as conds
 use Rattle.bye_pattern.specs.declared.level.Level.{Level}
 use Rattle.bye_pattern.specs.Certificates.{ShowsAdmitted, ShowsExtension, ShowsUncovered}
-use Rattle.bye_pattern.specs.Common.{IsCommon, IsCommonCond}
+use Rattle.bye_pattern.specs.Common.{IsCommonCond}
 use Rattle.bye_pattern.specs.Conjuncts.{MeetsCond}
 use Rattle.bye_pattern.specs.Patterns.{Meets, Pattern, all_vars}
 use Rattle.bye_pattern.specs.Starting.{IsInForm, IsStartNode}

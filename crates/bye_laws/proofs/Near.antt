@@ -1,5 +1,5 @@
 -- The triples with terms of the rows in them say all of one conjunction that the graph says.
-use Rattle.std.proofs.Common.{◌≡◌, refl, ℕ, List, [], ◌∷◌, ◌++◌, Option, Some, ◌⊎◌, inl, inr, ⊎_elim, sym, ◌∙◌, ap, subst, ◌↔◌}
+use Rattle.std.proofs.Common.{◌≡◌, refl, ℕ, List, ◌++◌, Some, inl, inr, ⊎_elim, sym, ◌∙◌, ap, ◌↔◌}
 use Rattle.std.specs.List.{AllByRecursion}
 use Rattle.bye_terms.specs.declared.term.Term.{Term}
 use Rattle.bye_terms.specs.Members.{In}
@@ -8,7 +8,6 @@ use Rattle.bye_terms.proofs.Members.{all_from, all_in, in_cases}
 use Rattle.bye_table.specs.Domains.{Wanted}
 use Rattle.bye_table.specs.DomainTrees.{Domain, Subdomains, also, domain, none}
 use Rattle.bye_table.specs.Mappings.{Binds, Mapping, Name}
-use Rattle.bye_table.proofs.Merging.{some_same}
 use Rattle.bye_pattern.specs.declared.class.Class.TheVariants.{And}
 use Rattle.bye_pattern.specs.declared.cond.Cond.{Cond}
 use Rattle.bye_pattern.specs.declared.level.Level.{Level}

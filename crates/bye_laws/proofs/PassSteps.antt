@@ -1,5 +1,5 @@
 -- One pass over a list, as far as it came: what is kept so far, and what is still to be tried.
-use Rattle.std.proofs.Common.{◌≡◌, refl, ℕ, List, [], ◌∷◌, ◌++◌, length, inl, inr, sym, subst, append_assoc, append-nil, arith}
+use Rattle.std.proofs.Common.{◌≡◌, refl, List, [], ◌∷◌, ◌++◌, inl, inr, sym, subst, append_assoc, append-nil}
 use Rattle.bye_pattern.specs.Keeping.{IsThinned}
 use Rattle.bye_laws.proofs.PassMaps.{thinned_map}
 

@@ -1,5 +1,5 @@
 -- Queries of the classes, and what written queries are read as, are SELECTs of the program.
-use Rattle.std.proofs.Common.{◌≡◌, refl, Bool, true, false, List, [], ◌∷◌, Option, Some, None, ⊎_elim, sym, ◌∙◌, subst}
+use Rattle.std.proofs.Common.{◌≡◌, refl, Bool, true, false, List, [], Option, Some, None, sym, ◌∙◌, subst}
 use Rattle.std.specs.List.{AllByRecursion}
 use Rattle.bye_terms.specs.Members.{EachOnce, In}
 use Rattle.bye_table.specs.Mappings.{Mapping, Name}

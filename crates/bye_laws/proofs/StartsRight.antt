@@ -1,6 +1,5 @@
 -- Where no claim shows, a start is of its class and right.
-use Rattle.std.proofs.Common.{◌≡◌, refl, ℕ, List, [], ⊎_elim, sym, subst, ◌↔◌}
-use Rattle.bye_terms.specs.Members.{In}
+use Rattle.std.proofs.Common.{ℕ, List, [], sym, subst, ◌↔◌}
 use Rattle.bye_terms.specs.Terms.{Statement}
 use Rattle.bye_terms.proofs.Members.{all_in}
 use Rattle.bye_table.specs.Domains.{Wanted}
@@ -12,7 +11,6 @@ use Rattle.bye_pattern.specs.Certificates.{ShowsAdmitted, ShowsExtension, ShowsU
 use Rattle.bye_pattern.specs.Classes.{InAnd}
 use Rattle.bye_pattern.specs.Keeping.{IsOfClass, IsRight, IsStart}
 use Rattle.bye_pattern.specs.Optional.{InOptional}
-use Rattle.bye_pattern.specs.Patterns.{all_vars}
 use Rattle.bye_pattern.specs.Trees.{Select, leaf, node, plain_select}
 use Rattle.bye_pattern.proofs.OneGroup.{in_all_vars}
 use Rattle.bye_laws.specs.Completeness.{AreExamples}

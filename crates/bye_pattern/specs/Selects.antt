@@ -1,5 +1,5 @@
 -- What each SELECT of the program keeps.
-use Rattle.std.specs.Prelude.{◌≡◌, false, List, []}
+use Rattle.std.specs.Prelude.{◌≡◌, false, []}
 use Rattle.std.specs.List.{AllByRecursion}
 use Rattle.bye_terms.specs.Members.{In, EachOnce}
 use Rattle.bye_table.specs.Mappings.{Name}

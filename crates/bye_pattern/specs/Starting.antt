@@ -16,7 +16,7 @@ use Rattle.bye_pattern.specs.Classes.{IsClassTriple, IsClassCond}
 use Rattle.bye_pattern.specs.Trees.{Tree, node, Forest, leaf, more}
 use Rattle.bye_pattern.specs.TrialOrder.{IsInStrictOrder}
 use Rattle.bye_table.specs.DomainTrees.{Domain, domain, Subdomains, none, also}
-use Rattle.bye_table.specs.Domains.{Wanted, IsSeen, IsWithin, IsBelow, AreAlike, BindsEach, IsBefore}
+use Rattle.bye_table.specs.Domains.{Wanted, IsWithin, IsBefore}
 
 -- a triple pattern of the class over Up(x), with any terms as constants, that each wanted row binding x meets
 pub record IsCommonAt (g : List Statement) (rows : List Mapping) (x : Name) (p : Pattern) : Type 0 where

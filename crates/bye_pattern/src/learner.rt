@@ -15,9 +15,9 @@ use crate::learned::Learned;
 use crate::meeting::meets_all;
 use crate::pattern::TriplePattern;
 use crate::ranked::in_trial_order;
-use bye_table::Row;
 use crate::slot::Slot;
 use crate::table::Table;
+use bye_table::Row;
 use bye_terms::{Memory, Triple, Var, push_item};
 use std::alloc::Global;
 

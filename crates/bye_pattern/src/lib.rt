@@ -26,12 +26,12 @@ mod worked;
 pub use class::Class;
 pub use cond::Cond;
 pub use constant::Constant;
+pub use kind::Kind;
 pub use laws::{
     answers_bind_the_tree, answers_of_one_group, bound_is_true, broken_or_designed,
     classes_at_one_node, common_patterns_fit, designed_at_once, domains_by_numbers,
     dropping_keeps_answers, fitting_is_meeting, none_fits_where_uncovered, one_table,
 };
-pub use kind::Kind;
 pub use learned::Learned;
 pub use learner::learn;
 pub use level::Level;

@@ -8,8 +8,8 @@ ghost use Rattle.bye_pattern.specs.Patterns.{slot_under};
 ghost use Rattle.bye_pattern.specs.Meeting as spec;
 
 use crate::pattern::TriplePattern;
-use bye_table::Row;
 use crate::slot::Slot;
+use bye_table::Row;
 use bye_terms::{Term, Triple, Var};
 
 fn same_name(one: &Var, other: &Var) -> bool

@@ -5,8 +5,8 @@ ghost use Rattle.bye_pattern.specs.Tables.{TableValue, IsHeader, IsRows, IsTable
 
 use crate::cells::read_cells;
 use crate::header::read_header;
-use bye_table::Row;
 use crate::table_err::TableErr;
+use bye_table::Row;
 use bye_terms::{Cursor, Memory, Var, push_item};
 use std::alloc::Global;
 use std::marker::Model;
