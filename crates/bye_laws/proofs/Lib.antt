@@ -50,3 +50,6 @@ pub mod StartsThere
 pub mod StartsRight
 pub mod ClaimLists
 pub mod Near
+pub mod WorkedLists
+pub mod WorkedDomains
+pub mod WorkedKinds

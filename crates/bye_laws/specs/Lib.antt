@@ -16,3 +16,4 @@ pub mod Strongest
 pub mod Beginning
 pub mod Claiming
 pub mod Later
+pub mod Worked

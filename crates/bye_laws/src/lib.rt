@@ -2,6 +2,8 @@
 //! function that does nothing.
 #![tactic(auto)]
 
+mod worked;
+
 ghost use Rattle.bye_laws.specs.Reaching.{RowsByReaching};
 ghost use Rattle.bye_laws.specs.Descending.{RowsByDescending};
 ghost use Rattle.bye_laws.specs.Values.{NoValuesByRows, StepsByValues};
@@ -19,6 +21,8 @@ ghost use Rattle.bye_laws.specs.Ordering.{OnePattern, SortedListsAreOneAndThere}
 ghost use Rattle.bye_laws.specs.DomainNodes.{DomainNodesAreTold, DomainTreesByDepth};
 ghost use Rattle.bye_laws.specs.Strongest.{StrongestNodes};
 ghost use Rattle.bye_laws.specs.Beginning.{StartsAreThereAndOne};
+
+pub use worked::kind_tests_are_kept;
 
 /// A row of a query over a well-designed tree is told by the nodes that it reaches and by the further expressions of the root
 /// (SPARQL 1.1 Query, section 18.5).
