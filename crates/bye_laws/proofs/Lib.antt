@@ -53,3 +53,6 @@ pub mod Near
 pub mod WorkedLists
 pub mod WorkedDomains
 pub mod WorkedKinds
+pub mod WorkedNested
+pub mod WorkedMails
+pub mod WorkedVips

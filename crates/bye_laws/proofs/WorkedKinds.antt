@@ -73,14 +73,14 @@ exact = (row_exactly (pair a b), (row_exactly (pair c d), tt))
 -- all that the rows have in common, with kind tests and without
 strongest_one : IsStrongestNode One liked names wanted_likes.rows (does_like ∷ []) are_bound
 unfolding of_terms cond_shapes value_conds kind_conds
-strongest_one = strongest_listed One liked names (pair a b) (pair c d ∷ []) (does_like ∷ []) are_bound
+strongest_one = strongest_listed One liked names (pair a b) (pair a b ∷ pair c d ∷ []) (does_like ∷ []) are_bound (inl refl)
     ((refl, refl), ((refl, refl), ((refl, refl), tt))) (refl, (refl, tt)) examples.once first_row
     (inl refl, tt) (inl refl, tt) (tt, tt)
     (inl refl, (inr (inl refl), tt)) (inl refl, (inr (inl refl), tt)) ((inl (refl, inl refl), tt), (tt, tt))
 
 strongest_two : IsStrongestNode Two liked names wanted_likes.rows (does_like ∷ []) with_kinds
 unfolding of_terms cond_shapes value_conds kind_conds
-strongest_two = strongest_listed Two liked names (pair a b) (pair c d ∷ []) (does_like ∷ []) with_kinds
+strongest_two = strongest_listed Two liked names (pair a b) (pair a b ∷ pair c d ∷ []) (does_like ∷ []) with_kinds (inl refl)
     ((refl, refl), ((refl, refl), ((refl, refl), tt))) (refl, (refl, tt)) examples.once first_row
     (inl refl, tt) (inl refl, tt) (tt, tt)
     (inl refl, (inr (inl refl), (inr (inr (inl refl)), (inr (inr (inr (inl refl))), tt))))

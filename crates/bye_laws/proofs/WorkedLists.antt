@@ -87,71 +87,69 @@ holds c row = is_true (value (row_mapping row) (cond_expr c))
 met : (c : Cond) (row : Pairs) → holds c row ≡ true → MeetsCond (row_mapping row) c
 met c row e = holds_meets (row_mapping row) c (some_true _ e)
 
--- the conditions that are common to rows
+-- the conditions that are common to rows, one of which is the first
 abbrev pub is_common : Level → List Name → List Pairs → Cond → Bool
 is_common level header rows c = has_form level header c && list_all (holds c) rows
 
 abbrev pub common_conditions : Level → List Name → Pairs → List Pairs → List Cond
-common_conditions level header first others = filter (is_common level header (first ∷ others)) (cond_shapes header (row_mapping first))
+common_conditions level header first rows = filter (is_common level header rows) (cond_shapes header (row_mapping first))
 
-conditions_told : (level : Level) (header : List Name) (first : Pairs) (others : List Pairs) → EachOnce header → Exactly header (row_mapping first) → (c : Cond)
-    → In (common_conditions level header first others) c ↔ (IsCommonCond level header (map row_mapping (first ∷ others)) c × IsInForm header c)
-conditions_told level header first others once exactly c = (
+conditions_told : (level : Level) (header : List Name) (first : Pairs) (rows : List Pairs) → In rows first → EachOnce header → Exactly header (row_mapping first) → (c : Cond)
+    → In (common_conditions level header first rows) c ↔ (IsCommonCond level header (map row_mapping rows) c × IsInForm header c)
+conditions_told level header first rows there once exactly c = (
   (λ h.
-      let e = both_parts _ _ (filtered (is_common level header (first ∷ others)) (cond_shapes header (row_mapping first)) c h).1 in
+      let e = both_parts _ _ (filtered (is_common level header rows) (cond_shapes header (row_mapping first)) c h).1 in
       let form = form_true level header c once e.0 in
-      let each : (row : Pairs) → In (first ∷ others) row → MeetsCond (row_mapping row) c = λ row k. met c row (each_of (holds c) (first ∷ others) e.1 row k) in (
+      let each : (row : Pairs) → In rows row → MeetsCond (row_mapping row) c = λ row k. met c row (each_of (holds c) rows e.1 row k) in (
         record {
           in_class = form.0;
-          over = λ v k. (exactly v).0 ((each first (inl refl)).0 v k);
-          holds = all_map (λ m. MeetsCond m c) row_mapping (first ∷ others) (all_from (λ row. MeetsCond (row_mapping row) c) (first ∷ others) each);
+          over = λ v k. (exactly v).0 ((each first there).0 v k);
+          holds = all_map (λ m. MeetsCond m c) row_mapping rows (all_from (λ row. MeetsCond (row_mapping row) c) rows each);
         },
         form.1,
       )),
   (λ (common, form).
-      let each = map_all (λ m. MeetsCond m c) row_mapping (first ∷ others) common.holds in
-      in_filtered (is_common level header (first ∷ others)) (cond_shapes header (row_mapping first)) c
-      (cond_in header (row_mapping first) c common.over each.0.1)
-      (both _ _ (true_form level header c common.in_class form)
-      (of_each (holds c) (first ∷ others) (λ row k. ap is_true (all_in (λ row. MeetsCond (row_mapping row) c) (first ∷ others) row each k).1)))),
+      let each : (row : Pairs) → In rows row → MeetsCond (row_mapping row) c =
+      λ row k. all_in (λ row. MeetsCond (row_mapping row) c) rows row (map_all (λ m. MeetsCond m c) row_mapping rows common.holds) k in
+      in_filtered (is_common level header rows) (cond_shapes header (row_mapping first)) c (cond_in header (row_mapping first) c common.over (each first there).1)
+      (both _ _ (true_form level header c common.in_class form) (of_each (holds c) rows (λ row k. ap is_true (each row k).1)))),
 )
 
--- the triple patterns that are common to rows
+-- the triple patterns that are common to them
 abbrev pub common_patterns : List Statement → Pairs → List Pairs → List Pattern
-common_patterns g first others = filter (test.meets_all g (first ∷ others)) (candidates first g)
+common_patterns g first rows = filter (test.meets_all g rows) (candidates first g)
 
-patterns_told : (g : List Statement) (header : List Name) (first : Pairs) (others : List Pairs) → AllByRecursion IsTriple g → NoRepeat first → Exactly header (row_mapping first) → (p : Pattern)
-    → In (common_patterns g first others) p ↔ IsCommon g header (map row_mapping (first ∷ others)) p
-patterns_told g header first others valid distinct exactly p = (
+patterns_told : (g : List Statement) (header : List Name) (first : Pairs) (rows : List Pairs) → In rows first → AllByRecursion IsTriple g → NoRepeat first → Exactly header (row_mapping first) → (p : Pattern)
+    → In (common_patterns g first rows) p ↔ IsCommon g header (map row_mapping rows) p
+patterns_told g header first rows there valid distinct exactly p = (
   (λ h.
-      let w = filtered (test.meets_all g (first ∷ others)) (candidates first g) p h in
+      let w = filtered (test.meets_all g rows) (candidates first g) p h in
       let q = candidate_meets first g p distinct w.0 in
       record {
         in_class = q.0;
         over = λ v k. (exactly v).0 (meets_binds g (row_mapping first) p v q.1 k);
-        holds = all_map (λ m. Meets g m p) row_mapping (first ∷ others) (all_from (λ row. Meets g (row_mapping row) p) (first ∷ others)
-            (λ row k. meets_true g p row (each_of (test.meets g p) (first ∷ others) w.1 row k)));
+        holds = all_map (λ m. Meets g m p) row_mapping rows (all_from (λ row. Meets g (row_mapping row) p) rows (λ row k. meets_true g p row (each_of (test.meets g p) rows w.1 row k)));
       }),
   (λ common.
-      let each = map_all (λ m. Meets g m p) row_mapping (first ∷ others) common.holds in
-      listed g first (first ∷ others) p valid common.in_class each.0 each),
+      let each = map_all (λ m. Meets g m p) row_mapping rows common.holds in
+      listed g first rows p valid common.in_class (all_in (λ row. Meets g (row_mapping row) p) rows first each there) each),
 )
 
 -- lists with the same members as these, in order, are those of the strongest node
-pub strongest_listed : (level : Level) (g : List Statement) (header : List Name) (first : Pairs) (others : List Pairs) (ps : List Pattern) (cs : List Cond)
+pub strongest_listed : (level : Level) (g : List Statement) (header : List Name) (first : Pairs) (rows : List Pairs) (ps : List Pattern) (cs : List Cond) → In rows first
     → AllByRecursion IsTriple g → NoRepeat first → EachOnce header → Exactly header (row_mapping first)
-    → AllByRecursion (In (common_patterns g first others)) ps → AllByRecursion (In ps) (common_patterns g first others) → IsInStrictOrder ps
-    → AllByRecursion (In (common_conditions level header first others)) cs → AllByRecursion (In cs) (common_conditions level header first others) → AreInTrialOrder header cs
-    → IsStrongestNode level g header (map row_mapping (first ∷ others)) ps cs
-strongest_listed level g header first others ps cs valid distinct once exactly these all order conditions each trial = record {
+    → AllByRecursion (In (common_patterns g first rows)) ps → AllByRecursion (In ps) (common_patterns g first rows) → IsInStrictOrder ps
+    → AllByRecursion (In (common_conditions level header first rows)) cs → AllByRecursion (In cs) (common_conditions level header first rows) → AreInTrialOrder header cs
+    → IsStrongestNode level g header (map row_mapping rows) ps cs
+strongest_listed level g header first rows ps cs there valid distinct once exactly these all order conditions each trial = record {
   triples = λ p. (
-    (λ h. (patterns_told g header first others valid distinct exactly p).0 (all_in (In (common_patterns g first others)) ps p these h)),
-    (λ common. all_in (In ps) (common_patterns g first others) p all ((patterns_told g header first others valid distinct exactly p).1 common)),
+    (λ h. (patterns_told g header first rows there valid distinct exactly p).0 (all_in (In (common_patterns g first rows)) ps p these h)),
+    (λ common. all_in (In ps) (common_patterns g first rows) p all ((patterns_told g header first rows there valid distinct exactly p).1 common)),
   );
   sorted = order;
   conditions = λ c. (
-    (λ h. (conditions_told level header first others once exactly c).0 (all_in (In (common_conditions level header first others)) cs c conditions h)),
-    (λ common. all_in (In cs) (common_conditions level header first others) c each ((conditions_told level header first others once exactly c).1 common)),
+    (λ h. (conditions_told level header first rows there once exactly c).0 (all_in (In (common_conditions level header first rows)) cs c conditions h)),
+    (λ common. all_in (In cs) (common_conditions level header first rows) c each ((conditions_told level header first rows there once exactly c).1 common)),
   );
   conditions_sorted = trial;
 }

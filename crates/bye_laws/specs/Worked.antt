@@ -5,7 +5,7 @@ use Rattle.bye_terms.specs.declared.term.Term.TheVariants.{Iri}
 use Rattle.bye_terms.specs.Terms.{Statement}
 use Rattle.bye_table.specs.Domains.{Wanted}
 use Rattle.bye_table.specs.Mappings.{Mapping, Pairs, row_mapping}
-use Rattle.bye_pattern.specs.declared.class.Class.TheVariants.{And}
+use Rattle.bye_pattern.specs.declared.class.Class.TheVariants.{And, Optional}
 use Rattle.bye_pattern.specs.declared.cond.Cond.TheVariants as conds
 use Rattle.bye_pattern.specs.declared.kind.Kind.TheVariants as kinds
 use Rattle.bye_pattern.specs.declared.level.Level.TheVariants.{One, Two}
@@ -13,10 +13,68 @@ use Rattle.bye_pattern.specs.declared.slot.Slot.TheVariants.{Const, Var}
 use Rattle.bye_pattern.specs.Certificates.{Admitted, Shows}
 use Rattle.bye_pattern.specs.Classes.{InAnd}
 use Rattle.bye_pattern.specs.Fitting.{NoFit}
-use Rattle.bye_pattern.specs.Keeping.{IsKept}
+use Rattle.bye_pattern.specs.Keeping.{IsKept, IsRight, IsStart}
+use Rattle.bye_pattern.specs.Optional.{InOptional}
+use Rattle.bye_pattern.specs.Patterns.{Pattern}
 use Rattle.bye_pattern.specs.Printed.{query_text}
-use Rattle.bye_pattern.specs.Trees.{Select, leaf, node, plain_select}
-use Rattle.bye_pattern.specs.Worked.{a, b, c, pattern, text, triple, x, y}
+use Rattle.bye_pattern.specs.Trees.{Select, leaf, more, node, plain_select}
+use Rattle.bye_pattern.specs.Worked.{a, b, c, group, has_mail, is_person, kind, m, mail, mail_row, mailed, mails, pattern, person, persons, some_mails, text, triple, with_optional, x, y}
+
+-- b has no mail address
+abbrev pub some_mailed : List Statement
+some_mailed = triple a mail (text (codes "m1")) ∷ triple c mail (text (codes "m3")) ∷ triple c kind person ∷ persons
+
+abbrev pub wanted_mails : Wanted
+wanted_mails = record { vars = x ∷ m ∷ []; rows = some_mails }
+
+-- all that the wanted rows have in common: the root's of all rows, and the child's of those that bind m
+abbrev pub mails_start : Select
+mails_start = plain_select (x ∷ m ∷ []) (node (is_person (Var x) ∷ []) (conds.Bound x ∷ [])
+    (more (node (is_person (Var x) ∷ has_mail ∷ []) (conds.Bound x ∷ conds.Bound m ∷ []) leaf) leaf))
+
+-- of that the query with mails is kept: SELECT DISTINCT ?x ?m WHERE { ?x e:type e:Person OPTIONAL { ?x e:mail ?m } }
+pub record MailsAreKept : Type 0 where
+  pub begun : IsStart Optional One some_mailed wanted_mails mails_start
+  pub right : IsRight Optional One some_mailed wanted_mails.rows [] mails_start
+  pub kept : IsKept Optional One some_mailed wanted_mails [] mails
+  -- where b has mail too, no query fits
+  pub none : NoFit (InOptional One some_mails) mailed some_mails []
+
+-- a is a VIP, and both a and b have mail, but b is wanted without it
+abbrev pub vip : Term
+vip = Iri (codes "e:vip")
+
+abbrev pub affirmed : Term
+affirmed = Iri (codes "e:yes")
+
+abbrev pub vip_mailed : List Statement
+vip_mailed = triple a vip affirmed ∷ triple a mail (text (codes "m1")) ∷ triple b mail (text (codes "m2")) ∷ persons
+
+abbrev pub wanted_vips : Wanted
+wanted_vips = record { vars = x ∷ m ∷ []; rows = mail_row ∷ row_mapping ((x, b) ∷ []) ∷ [] }
+
+abbrev pub is_vip : Pattern
+is_vip = pattern (Var x) (Const vip) (Const affirmed)
+
+-- of the one row that binds m the child has the terms too
+abbrev pub vips_start : Select
+vips_start = plain_select (x ∷ m ∷ []) (node (is_person (Var x) ∷ []) (conds.Bound x ∷ []) (more (node
+    (pattern (Const a) (Const mail) (Var m) ∷ pattern (Var x) (Const mail) (Const (text (codes "m1"))) ∷ is_person (Var x) ∷ is_vip ∷ has_mail ∷ [])
+    (conds.Bound x ∷ conds.Bound m ∷ conds.SameConst x a ∷ conds.SameConst m (text (codes "m1")) ∷ []) leaf) leaf))
+
+-- SELECT DISTINCT ?x ?m WHERE { ?x e:type e:Person OPTIONAL { ?x e:vip e:yes . ?x e:mail ?m } }
+abbrev pub vip_mails : Select
+vip_mails = plain_select (x ∷ m ∷ []) (with_optional (is_person (Var x) ∷ []) (group (is_vip ∷ has_mail ∷ [])))
+
+-- a pattern of the outer variable alone is kept in the OPTIONAL group
+pub record OuterPatternsAreKept : Type 0 where
+  pub begun : IsStart Optional One vip_mailed wanted_vips vips_start
+  pub right : IsRight Optional One vip_mailed wanted_vips.rows [] vips_start
+  pub kept : IsKept Optional One vip_mailed wanted_vips [] vip_mails
+  pub written : query_text vip_mails
+      ≡ codes "SELECT DISTINCT ?x ?m\nWHERE {\n  ?x <e:type> <e:Person> .\n  OPTIONAL {\n    ?x <e:vip> <e:yes> .\n    ?x <e:mail> ?m .\n  }\n}\n"
+  -- without that pattern the row of b is extended
+  pub needed : IsRight Optional One vip_mailed wanted_vips.rows [] mails → ⊥
 
 -- further terms
 abbrev pub d : Term

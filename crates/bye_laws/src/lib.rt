@@ -22,7 +22,7 @@ ghost use Rattle.bye_laws.specs.DomainNodes.{DomainNodesAreTold, DomainTreesByDe
 ghost use Rattle.bye_laws.specs.Strongest.{StrongestNodes};
 ghost use Rattle.bye_laws.specs.Beginning.{StartsAreThereAndOne};
 
-pub use worked::kind_tests_are_kept;
+pub use worked::{kind_tests_are_kept, mails_are_kept, outer_patterns_are_kept};
 
 /// A row of a query over a well-designed tree is told by the nodes that it reaches and by the further expressions of the root
 /// (SPARQL 1.1 Query, section 18.5).
