@@ -15,7 +15,8 @@ use Rattle.bye_laws.specs.Strongest.{AreAround, AreRowsOf}
 use Rattle.bye_laws.proofs.Withins.{each_seen, seen_up, within_each}
 
 -- a variable that a row of the table binds is one of the header
-pub seen_names : (header : List Name) (rows : List Pairs) → AllByRecursion (λ row. AllByRecursion (In header) (names_of row)) rows → (v : Name) → IsSeen (map row_mapping rows) v → In header v
+pub seen_names : (header : List Name) (rows : List Pairs) → AllByRecursion (λ row. AllByRecursion (In header) (names_of row)) rows
+    → (v : Name) → IsSeen (map row_mapping rows) v → In header v
 seen_names header rows all v (m, there, b) =
     let r = in_map row_mapping rows m there in
     all_in (In header) (names_of r.0) v (all_in (λ row. AllByRecursion (In header) (names_of row)) rows r.0 all r.1)

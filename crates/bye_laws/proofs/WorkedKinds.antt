@@ -24,7 +24,7 @@ use Rattle.bye_pattern.proofs.WorkedTerms.{differ, row_exactly}
 use Rattle.bye_laws.specs.Completeness.{AreExamples}
 use Rattle.bye_laws.specs.Parts.{Within}
 use Rattle.bye_laws.specs.Strongest.{IsStrongestNode}
-use Rattle.bye_laws.specs.Worked.{KindTestsAreKept, d, liked, likes, pair, unwanted_likes, wanted_likes}
+use Rattle.bye_laws.specs.Worked.{KindTestsAreKept, d, liked, likes, pair, text_row, unwanted_likes, wanted_likes}
 use Rattle.bye_laws.proofs.AllConjuncts.{cond_shapes, kind_conds, value_conds}
 use Rattle.bye_laws.proofs.BothClasses.{certificates_sound}
 use Rattle.bye_laws.proofs.ClaimLists.{admitted_by_list}
@@ -112,8 +112,11 @@ begun = record {
     least v (inr (inl (e, k))) = k
     least v (inr (inr k)) = k
 
+text_exactly : Exactly names text_row
+text_exactly = row_exactly (pair a (text (codes "1")))
+
 -- the text is no IRI
-fails : Holds (row_mapping (pair a (text (codes "1")))) (is_iri y) → ⊥
+fails : Holds text_row (is_iri y) → ⊥
 fails e = cc
 
 not_met : (m : Mapping) → In unwanted_likes m → MeetsCond m (is_iri y) → ⊥
@@ -141,16 +144,16 @@ Right ps cs = IsRight And Two liked wanted_likes.rows unwanted_likes (plain_sele
 
 tested : (cs : List Cond) → Within cs with_kinds → In cs (is_iri y) → Right (does_like ∷ []) cs
 tested cs within there = (right_served Two liked wanted_likes.rows unwanted_likes names (does_like ∷ []) (does_like ∷ []) with_kinds cs (λ p h. h) within right).1
-    (record { variables = λ v h. h; rows = ((λ exactly. inr (is_iri y, there, not_met (row_mapping (pair a (text (codes "1")))) (inl refl))), tt) })
+    (record { variables = λ v h. h; rows = ((λ exactly. inr (is_iri y, there, not_met text_row (inl refl))), tt) })
 
 -- without it the unwanted row is an answer
-text_liked : Meets liked (row_mapping (pair a (text (codes "1")))) does_like
+text_liked : Meets liked text_row does_like
 text_liked = (_, inr (inr (inl refl)), record { s = refl; p = refl; o = refl })
 
 untested : Right (does_like ∷ []) [] → ⊥
 untested rest =
     let served = (right_served Two liked wanted_likes.rows unwanted_likes names (does_like ∷ []) (does_like ∷ []) with_kinds [] (λ p h. h) (λ k h. absurd h) right).0 rest in
-    ⊎_elim (λ w. ⊎_elim (λ e. w.2 (subst (Meets liked (row_mapping (pair a (text (codes "1"))))) e text_liked)) (λ k. k) w.1) (λ w. w.1) (served.rows.0 (row_exactly (pair a (text (codes "1")))))
+    ⊎_elim (λ w. ⊎_elim (λ e. w.2 (subst (Meets liked text_row) e text_liked)) (λ k. k) w.1) (λ w. w.1) (served.rows.0 text_exactly)
 
 -- and without the pattern nothing covers x
 no_pattern : Right [] (is_iri y ∷ []) → ⊥
@@ -161,9 +164,9 @@ shows_one : Shows liked wanted_likes.rows unwanted_likes (record { level = One; 
 shows_one = record {
   goes = tt;
   shown = (admitted_by_list One liked wanted_likes.rows unwanted_likes 1 names (does_like ∷ []) are_bound examples.some exact strongest_one).1 (
-    row_mapping (pair a (text (codes "1"))),
+    text_row,
     refl,
-    row_exactly (pair a (text (codes "1"))),
+    text_exactly,
     ((text_liked, tt), (holds_meets _ (conds.Bound x) refl, (holds_meets _ (conds.Bound y) refl, tt))),
   );
 }

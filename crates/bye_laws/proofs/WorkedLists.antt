@@ -119,7 +119,8 @@ conditions_told level header first rows there once exactly c = (
 abbrev pub common_patterns : List Statement → Pairs → List Pairs → List Pattern
 common_patterns g first rows = filter (test.meets_all g rows) (candidates first g)
 
-patterns_told : (g : List Statement) (header : List Name) (first : Pairs) (rows : List Pairs) → In rows first → AllByRecursion IsTriple g → NoRepeat first → Exactly header (row_mapping first) → (p : Pattern)
+patterns_told : (g : List Statement) (header : List Name) (first : Pairs) (rows : List Pairs) → In rows first
+    → AllByRecursion IsTriple g → NoRepeat first → Exactly header (row_mapping first) → (p : Pattern)
     → In (common_patterns g first rows) p ↔ IsCommon g header (map row_mapping rows) p
 patterns_told g header first rows there valid distinct exactly p = (
   (λ h.
@@ -128,7 +129,8 @@ patterns_told g header first rows there valid distinct exactly p = (
       record {
         in_class = q.0;
         over = λ v k. (exactly v).0 (meets_binds g (row_mapping first) p v q.1 k);
-        holds = all_map (λ m. Meets g m p) row_mapping rows (all_from (λ row. Meets g (row_mapping row) p) rows (λ row k. meets_true g p row (each_of (test.meets g p) rows w.1 row k)));
+        holds = all_map (λ m. Meets g m p) row_mapping rows
+            (all_from (λ row. Meets g (row_mapping row) p) rows (λ row k. meets_true g p row (each_of (test.meets g p) rows w.1 row k)));
       }),
   (λ common.
       let each = map_all (λ m. Meets g m p) row_mapping rows common.holds in

@@ -67,11 +67,11 @@ child_lists = strongest_listed One some_mailed (x ∷ m ∷ []) row_a (row_a ∷
     (inr (inl refl), (inl refl, tt)) (inr (inl refl), (inl refl, tt)) ((refl, tt), (tt, tt))
     (inl refl, (inr (inl refl), tt)) (inl refl, (inr (inl refl), tt)) ((inl (refl, inl refl), tt), (tt, tt))
 
-lists : AreStartLists One some_mailed some_mails x m (is_person (Var x) ∷ []) (conds.Bound x ∷ []) child_patterns child_conditions
+lists : AreStartLists One some_mailed some_mails x m (is_person (Var x) ∷ []) child_patterns (conds.Bound x ∷ []) child_conditions
 lists = record { nested = nested; others = map row_mapping (row_a ∷ row_c ∷ []); binding = rows_that_bind rows m; root = root_lists; child = child_lists }
 
 -- b has no mail, so it is right
-right_start : IsRightStart One some_mailed some_mails x m (is_person (Var x) ∷ []) (conds.Bound x ∷ []) child_patterns child_conditions
+right_start : IsRightStart One some_mailed some_mails x m (is_person (Var x) ∷ []) child_patterns (conds.Bound x ∷ []) child_conditions
 right_start = record { lists = lists; root = inl refl; child = inr (inr (inl refl)); shut = shut some_mailed rows x m child_patterns child_conditions refl }
 
 pub mails_kept : MailsAreKept

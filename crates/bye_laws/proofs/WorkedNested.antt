@@ -89,7 +89,8 @@ no_values g m ps cs never e within same met = not_both _ (of_each (can_meet g m)
 abbrev pub is_shut : List Statement → Name → List Pattern → Pairs → Bool
 is_shut g m ps row = is_some (row_mapping row m) || not (list_all (can_meet g (row_mapping row)) ps)
 
-pub shut : (g : List Statement) (rows : List Pairs) (x m : Name) (ps : List Pattern) (cs : List Cond) → list_all (is_shut g m ps) rows ≡ true → IsShut g (map row_mapping rows) x m (node ps cs leaf)
+pub shut : (g : List Statement) (rows : List Pairs) (x m : Name) (ps : List Pattern) (cs : List Cond) → list_all (is_shut g m ps) rows ≡ true
+    → IsShut g (map row_mapping rows) x m (node ps cs leaf)
 shut g rows x m ps cs e =
     all_map (λ r. Binds r x → (Binds r m → ⊥) → NoValues g r (node ps cs leaf)) row_mapping rows
     (all_from (λ row. Binds (row_mapping row) x → (Binds (row_mapping row) m → ⊥) → NoValues g (row_mapping row) (node ps cs leaf)) rows (λ row h b out.
@@ -177,14 +178,14 @@ abbrev pub tree_over : List Pattern → List Cond → List Pattern → List Cond
 tree_over ps cs qs ds = node ps cs (more (node qs ds leaf) leaf)
 
 -- the start by the strongest nodes: of all rows over the first variable, and over both of the rows that bind the second
-pub record AreStartLists (level : Level) (g : List Statement) (rows : List Mapping) (x m : Name) (ps : List Pattern) (cs : List Cond) (qs : List Pattern) (ds : List Cond) : Type 0 where
+pub record AreStartLists (level : Level) (g : List Statement) (rows : List Mapping) (x m : Name) (ps qs : List Pattern) (cs ds : List Cond) : Type 0 where
   pub nested : AreNestedRows rows x m
   pub others : List Mapping
   pub binding : AreRowsOf rows m others
   pub root : IsStrongestNode level g (x ∷ []) rows ps cs
   pub child : IsStrongestNode level g (x ∷ m ∷ []) others qs ds
 
-start_tree : (level : Level) (g : List Statement) (rows : List Mapping) (x m : Name) (ps qs : List Pattern) (cs ds : List Cond) → AreStartLists level g rows x m ps cs qs ds
+start_tree : (level : Level) (g : List Statement) (rows : List Mapping) (x m : Name) (ps qs : List Pattern) (cs ds : List Cond) → AreStartLists level g rows x m ps qs cs ds
     → IsStartTree level g (examples_of rows x m) (tree_of_two x m) (tree_over ps cs qs ds)
 start_tree level g rows x m ps qs cs ds is = (
   (start_at level g (examples_of rows x m) x (x ∷ []) rows ps cs is.nested.examples (around_root rows x m is.nested) (all_rows rows x is.nested.root)).0 is.root,
@@ -194,7 +195,7 @@ start_tree level g rows x m ps qs cs ds is = (
 selected : (rows : List Mapping) (x m : Name) → AreNestedRows rows x m → AreSelected (examples_of rows x m) (x ∷ m ∷ [])
 selected rows x m is = inl (each_seen rows x is.examples.some is.root, (m ∷ [], inl (is.seen, ([], refl, refl)), refl))
 
-pub nested_start : (level : Level) (g : List Statement) (rows : List Mapping) (x m : Name) (ps qs : List Pattern) (cs ds : List Cond) → AreStartLists level g rows x m ps cs qs ds
+pub nested_start : (level : Level) (g : List Statement) (rows : List Mapping) (x m : Name) (ps qs : List Pattern) (cs ds : List Cond) → AreStartLists level g rows x m ps qs cs ds
     → IsStart Optional level g (examples_of rows x m) (plain_select (x ∷ m ∷ []) (tree_over ps cs qs ds))
 nested_start level g rows x m ps qs cs ds is = record {
   domains = tree_of_two x m;
@@ -208,13 +209,13 @@ nested_start level g rows x m ps qs cs ds is = record {
 }
 
 -- it is right where its triples contain the variables, and no row without the second variable has values for it
-pub record IsRightStart (level : Level) (g : List Statement) (rows : List Mapping) (x m : Name) (ps : List Pattern) (cs : List Cond) (qs : List Pattern) (ds : List Cond) : Type 0 where
-  pub lists : AreStartLists level g rows x m ps cs qs ds
+pub record IsRightStart (level : Level) (g : List Statement) (rows : List Mapping) (x m : Name) (ps qs : List Pattern) (cs ds : List Cond) : Type 0 where
+  pub lists : AreStartLists level g rows x m ps qs cs ds
   pub root : In (all_vars ps) x
   pub child : In (all_vars qs) m
   pub shut : IsShut g rows x m (node qs ds leaf)
 
-pub nested_right : (level : Level) (g : List Statement) (rows : List Mapping) (x m : Name) (ps qs : List Pattern) (cs ds : List Cond) → IsRightStart level g rows x m ps cs qs ds
+pub nested_right : (level : Level) (g : List Statement) (rows : List Mapping) (x m : Name) (ps qs : List Pattern) (cs ds : List Cond) → IsRightStart level g rows x m ps qs cs ds
     → IsRight Optional level g rows [] (plain_select (x ∷ m ∷ []) (tree_over ps cs qs ds))
 nested_right level g rows x m ps qs cs ds is =
     (optional_right level g (examples_of rows x m) (plain_select (x ∷ m ∷ []) (tree_over ps cs qs ds)) is.lists.nested.examples begun
@@ -257,10 +258,11 @@ nested_right level g rows x m ps qs cs ds is =
         (cases rows x m is.lists.nested v claim.seen)
 
 -- it is settled at its root
-start_settled : (level : Level) (g : List Statement) (rows : List Mapping) (x m : Name) (ps qs : List Pattern) (cs ds : List Cond) → IsRightStart level g rows x m ps cs qs ds
+start_settled : (level : Level) (g : List Statement) (rows : List Mapping) (x m : Name) (ps qs : List Pattern) (cs ds : List Cond) → IsRightStart level g rows x m ps qs cs ds
     → IsSettled level g rows [] x (tree_of_two x m) (tree_over ps cs qs ds)
 start_settled level g rows x m ps qs cs ds is =
-    root_of_right level g rows (plain_select (x ∷ m ∷ []) (tree_over ps cs qs ds)) (tree_of_two x m) (nested_right level g rows x m ps qs cs ds is) ((is.root, λ k. k), (((is.child, apart), tt), tt))
+    root_of_right level g rows (plain_select (x ∷ m ∷ []) (tree_over ps cs qs ds)) (tree_of_two x m) (nested_right level g rows x m ps qs cs ds is)
+    ((is.root, λ k. k), (((is.child, apart), tt), tt))
   where
     apart : In (all_vars ps) m → ⊥
     apart h =
@@ -273,13 +275,16 @@ all_left_out : {X : Type 0} (R : List X → Type 0) (xs : List X) → ((ys : Lis
 all_left_out R [] right = refl
 all_left_out R (x ∷ xs) right = inl (right xs (λ y h. inr h), all_left_out R xs (λ ys within. right ys (λ y h. inr (within y h))))
 
--- What the pass keeps of a start that is right, with one pattern at its root: of the child it leaves out each condition, where
--- without it the child is shut, and each pattern, where without it the second variable is contained too. The root's pattern stays.
-pub nested_kept : (level : Level) (g : List Statement) (rows : List Mapping) (x m : Name) (p : Pattern) (qs rs : List Pattern) (cs ds : List Cond) → IsRightStart level g rows x m (p ∷ []) cs qs ds
+-- What the pass keeps of a start that is right, with one pattern at its root. Of the child's conditions it asks whether the child
+-- stays shut, and here it leaves out all; of its patterns it asks besides whether the second variable stays in them. At the root the
+-- conditions go and the pattern stays.
+pub nested_kept : (level : Level) (g : List Statement) (rows : List Mapping) (x m : Name) (p : Pattern) (qs rs : List Pattern) (cs ds : List Cond)
+    → IsRightStart level g rows x m (p ∷ []) qs cs ds
     → IsThinned (λ es. IsShut g rows x m (node qs es leaf)) ds [] → IsThinned (λ zs. In (all_vars zs) m × IsShut g rows x m (node zs [] leaf)) qs rs
     → IsKept Optional level g (examples_of rows x m) [] (plain_select (x ∷ m ∷ []) (tree_over (p ∷ []) [] rs []))
 nested_kept level g rows x m p qs rs cs ds is conditions triples =
-    local_kept level g (examples_of rows x m) (tree_of_two x m) (x ∷ m ∷ []) (tree_over (p ∷ []) cs qs ds) (tree_over (p ∷ []) [] rs []) is.lists.nested.examples (nested_tree rows x m is.lists.nested)
+    local_kept level g (examples_of rows x m) (tree_of_two x m) (x ∷ m ∷ []) (tree_over (p ∷ []) cs qs ds) (tree_over (p ∷ []) [] rs [])
+    is.lists.nested.examples (nested_tree rows x m is.lists.nested)
     (selected rows x m is.lists.nested) (start_tree level g rows x m (p ∷ []) qs cs ds is.lists) (nested_right level g rows x m (p ∷ []) qs cs ds is) (
       more (node rs [] leaf) leaf,
       [],
@@ -315,7 +320,8 @@ nested_kept level g rows x m p qs rs cs ds is conditions triples =
     needed zs h v (inr (inr k)) = absurd k
 
     triples_here : IsThinned (λ zs. IsSettled level g rows (all_vars (p ∷ [])) x (domain m none) (node zs [] leaf)) qs rs
-    triples_here = thinned_map (λ zs. In (all_vars zs) m × IsShut g rows x m (node zs [] leaf)) (λ zs. IsSettled level g rows (all_vars (p ∷ [])) x (domain m none) (node zs [] leaf)) qs rs
+    triples_here = thinned_map (λ zs. In (all_vars zs) m × IsShut g rows x m (node zs [] leaf))
+        (λ zs. IsSettled level g rows (all_vars (p ∷ [])) x (domain m none) (node zs [] leaf)) qs rs
         (λ zs within.
         let stand = triples_stand level g rows (all_vars (p ∷ [])) x m none qs zs [] leaf within bare in
         ((λ h. stand.1 (needed zs h.0, h.1)), (λ t. let k = stand.0 t in (k.0 m (inl (is.lists.nested.seen, (within_self rows m, within_self rows m))), k.1))))
@@ -326,7 +332,8 @@ nested_kept level g rows x m p qs rs cs ds is conditions triples =
 
     root : IsSettled level g rows [] x (tree_of_two x m) (tree_over (p ∷ []) cs rs [])
     root = (settled_down level g rows [] x x (also (domain m none) none) (p ∷ []) cs (more (node qs ds leaf) leaf) (more (node rs [] leaf) leaf) whole).0
-        (both_in level g rows (all_vars (p ∷ [])) x (domain m none) none (node rs [] leaf) leaf left (rest_of_in level g rows (all_vars (p ∷ [])) x (domain m none) none (node qs ds leaf) leaf below))
+        (both_in level g rows (all_vars (p ∷ [])) x (domain m none) none (node rs [] leaf) leaf left
+        (rest_of_in level g rows (all_vars (p ∷ [])) x (domain m none) none (node qs ds leaf) leaf below))
 
     root_conditions : IsThinned (λ es. IsSettled level g rows [] x (tree_of_two x m) (tree_over (p ∷ []) es rs [])) cs []
     root_conditions = all_left_out (λ es. IsSettled level g rows [] x (tree_of_two x m) (tree_over (p ∷ []) es rs [])) cs

@@ -1,29 +1,27 @@
 -- The worked example of a pattern of the outer variable alone that is kept in an OPTIONAL group.
-use Rattle.std.proofs.Common.{refl, List, [], ◌∷◌, map, inl, inr, ⊎_elim, sym, ◌∙◌, codes}
-use Rattle.bye_table.specs.DomainTrees.{also, domain, none}
-use Rattle.bye_table.specs.Mappings.{Compatible, Pairs, row_mapping}
+use Rattle.std.proofs.Common.{refl, subst, List, [], ◌∷◌, map, inl, inr, ⊎_elim, sym, ◌∙◌, codes}
+use Rattle.bye_table.specs.Mappings.{Binds, Compatible, Mapping, Pairs, row_mapping}
 use Rattle.bye_table.proofs.Merging.{binds}
-use Rattle.bye_pattern.specs.declared.class.Class.TheVariants.{Optional}
 use Rattle.bye_pattern.specs.declared.cond.Cond.{Cond}
 use Rattle.bye_pattern.specs.declared.cond.Cond.TheVariants as conds
 use Rattle.bye_pattern.specs.declared.level.Level.TheVariants.{One}
 use Rattle.bye_pattern.specs.declared.slot.Slot.TheVariants.{Const, Var}
+use Rattle.bye_pattern.specs.Algebra.{IsAnswer}
 use Rattle.bye_pattern.specs.Candidates.{of_terms}
-use Rattle.bye_pattern.specs.Keeping.{IsRight}
 use Rattle.bye_pattern.specs.Patterns.{Pattern}
 use Rattle.bye_pattern.specs.Printed.{root_line}
-use Rattle.bye_pattern.specs.Trees.{leaf, more}
+use Rattle.bye_pattern.specs.Trees.{alg}
 use Rattle.bye_pattern.specs.Worked.{a, b, group, has_mail, is_person, m, mail, mails, pattern, text, x}
+use Rattle.bye_pattern.proofs.WorkedOptional.{classes}
 use Rattle.bye_pattern.proofs.WorkedTerms.{differ, only_name, row_exactly}
-use Rattle.bye_laws.specs.LocalPass.{IsShut}
+use Rattle.bye_laws.specs.Reaching.{NoValues}
 use Rattle.bye_laws.specs.Strongest.{IsStrongestNode}
 use Rattle.bye_laws.specs.Worked.{OuterPatternsAreKept, is_vip, vip_mailed, wanted_vips}
 use Rattle.bye_laws.proofs.AllConjuncts.{cond_shapes, kind_conds, value_conds}
-use Rattle.bye_laws.proofs.AnyRight.{root_of_right}
-use Rattle.bye_laws.proofs.LocalPass.{children_of, first_of_in}
+use Rattle.bye_laws.proofs.ByNodes.{answer_by_node}
 use Rattle.bye_laws.proofs.WorkedDomains.{seen_names}
 use Rattle.bye_laws.proofs.WorkedLists.{strongest_listed}
-use Rattle.bye_laws.proofs.WorkedNested.{AreNestedRows, AreStartLists, IsRightStart, nested_kept, nested_right, nested_start, rows_that_bind, shut, tree_of_two}
+use Rattle.bye_laws.proofs.WorkedNested.{AreNestedRows, AreStartLists, IsRightStart, nested_kept, nested_right, nested_start, rows_that_bind, shut}
 
 -- the rows of the table
 abbrev row_a : Pairs
@@ -78,26 +76,30 @@ child_lists = strongest_listed One vip_mailed (x ∷ m ∷ []) row_a (row_a ∷ 
     (inl refl, (inr (inl refl), (inr (inr (inl refl)), (inr (inr (inr (inl refl))), tt))))
     ((inl (refl, inl refl), (tt, (tt, tt))), ((tt, (tt, tt)), ((inl (refl, inl refl), tt), (tt, tt))))
 
-lists : AreStartLists One vip_mailed wanted_vips.rows x m (is_person (Var x) ∷ []) (conds.Bound x ∷ []) child_patterns child_conditions
+lists : AreStartLists One vip_mailed wanted_vips.rows x m (is_person (Var x) ∷ []) child_patterns (conds.Bound x ∷ []) child_conditions
 lists = record { nested = nested; others = map row_mapping (row_a ∷ []); binding = rows_that_bind rows m; root = root_lists; child = child_lists }
 
 -- b is no VIP
-right_start : IsRightStart One vip_mailed wanted_vips.rows x m (is_person (Var x) ∷ []) (conds.Bound x ∷ []) child_patterns child_conditions
+right_start : IsRightStart One vip_mailed wanted_vips.rows x m (is_person (Var x) ∷ []) child_patterns (conds.Bound x ∷ []) child_conditions
 right_start = record { lists = lists; root = inl refl; child = inl refl; shut = shut vip_mailed rows x m child_patterns child_conditions refl }
 
 -- but has mail
-open_without : IsShut vip_mailed wanted_vips.rows x m (group (has_mail ∷ [])) → ⊥
-open_without h = h.1.0 refl (λ k. cc) (row_mapping ((m, text (codes "m2")) ∷ []))
-    (λ v k. inr (inl (only_name m (text (codes "m2")) v k))) agree (((_, inr (inr (inl refl)), record { s = refl; p = refl; o = refl }), tt), tt)
-  where
-    agree : Compatible (row_mapping row_b) (row_mapping ((m, text (codes "m2")) ∷ []))
-    agree v s t d e = absurd (differ x m refl (only_name x b v (binds (row_mapping row_b v) s d) ∙ sym (only_name m (text (codes "m2")) v (binds (row_mapping ((m, text (codes "m2")) ∷ []) v) t e))))
+values : Mapping
+values = row_mapping ((m, text (codes "m2")) ∷ [])
 
-needed : IsRight Optional One vip_mailed wanted_vips.rows [] mails → ⊥
-needed right =
-    let root = root_of_right One vip_mailed wanted_vips.rows mails (tree_of_two x m) right ((inl refl, λ k. k), (((inr (inl refl), λ h. ⊎_elim (λ e. differ x m refl e) (λ n. n) h), tt), tt)) in
-    open_without (first_of_in One vip_mailed wanted_vips.rows (x ∷ []) x (domain m none) none (group (has_mail ∷ [])) leaf
-    (children_of One vip_mailed wanted_vips.rows [] x x (also (domain m none) none) (is_person (Var x) ∷ []) [] (more (group (has_mail ∷ [])) leaf) root)).shut
+has_values : NoValues vip_mailed (row_mapping row_b) (group (has_mail ∷ [])) → ⊥
+unfolding values
+has_values h = h values (λ v k. inr (inl (only_name m (text (codes "m2")) v k))) agree (((_, inr (inr (inl refl)), record { s = refl; p = refl; o = refl }), tt), tt)
+  where
+    agree : Compatible (row_mapping row_b) values
+    agree v s t d e = absurd (differ x m refl (only_name x b v (binds (row_mapping row_b v) s d) ∙ sym (only_name m (text (codes "m2")) v (binds (values v) t e))))
+
+-- so without the pattern the OPTIONAL group gives it
+needed : IsAnswer vip_mailed mails.vars (alg mails) (row_mapping row_b) → ⊥
+needed answer = has_values ((answer_by_node One vip_mailed mails wanted_vips.rows (row_mapping row_b) classes.right.in_class (inr (inl refl)) answer).none
+    [] mails.tree (group (has_mail ∷ [])) (inl (refl, refl)) (inl refl)
+    (λ v new. ⊎_elim (λ e. subst (Binds (row_mapping row_b)) e refl) (λ k. absurd k) new.0)
+    (λ all. let k = all m (inr (inl refl), λ h. ⊎_elim (λ e. differ x m refl e) (λ n. n) h) in cc))
 
 pub vips_kept : OuterPatternsAreKept
 vips_kept = record {
@@ -120,7 +122,7 @@ vips_kept = record {
           (inr (inr (inr (inl refl))), shut vip_mailed rows x m (is_person (Var x) ∷ is_vip ∷ has_mail ∷ []) [] refl),
           inl (
             (inr (inr (inl refl)), shut vip_mailed rows x m (is_vip ∷ has_mail ∷ []) [] refl),
-            inr ((λ h. open_without h.1), (has_mail ∷ [], inr ((λ h. ⊎_elim (λ e. differ x m refl e) (λ n. n) h.0), ([], refl, refl)), refl)),
+            inr ((λ h. has_values (h.1.1.0 refl (λ k. cc))), (has_mail ∷ [], inr ((λ h. ⊎_elim (λ e. differ x m refl e) (λ n. n) h.0), ([], refl, refl)), refl)),
           ),
         ),
       ));
