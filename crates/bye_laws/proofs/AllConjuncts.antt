@@ -79,16 +79,16 @@ shape_in vs m g p inside (f, there, is) =
     (slot_in vs m p.o f.o (λ v h. inside v (in_right (slot_vars p.s ++ slot_vars p.p) _ v h)) is.o))))
 
 -- the condition that a variable has its value
-value_conds : Name → Option Term → List Cond
+unfoldable pub value_conds : Name → Option Term → List Cond
 value_conds v None = []
 value_conds v (Some t) = conds.SameConst v t ∷ []
 
 -- the kind tests of a variable
-kind_conds : Name → List Cond
+unfoldable pub kind_conds : Name → List Cond
 kind_conds v = conds.KindOf kinds.Iri v ∷ conds.KindOf kinds.Blank v ∷ conds.KindOf kinds.Literal v ∷ []
 
 -- conditions over these variables that may hold of the mapping
-pub cond_shapes : List Name → Mapping → List Cond
+unfoldable pub cond_shapes : List Name → Mapping → List Cond
 cond_shapes vs m = map conds.Bound vs ++ (flat_map (λ v. map (conds.SameVar v) vs) vs ++ (flat_map (λ v. value_conds v (m v)) vs ++ flat_map kind_conds vs))
 
 -- a sameTerm that is true tells the value

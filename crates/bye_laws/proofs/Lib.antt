@@ -62,3 +62,9 @@ pub mod Searches
 pub mod ClaimsDecided
 pub mod FirstClaims
 pub mod FoundValues
+pub mod WorkedLists
+pub mod WorkedDomains
+pub mod WorkedKinds
+pub mod WorkedNested
+pub mod WorkedMails
+pub mod WorkedVips

@@ -17,3 +17,4 @@ pub mod Beginning
 pub mod Claiming
 pub mod Later
 pub mod Written
+pub mod Worked

@@ -8,6 +8,7 @@ mod keeping;
 mod orders;
 mod rows;
 mod starts;
+mod worked;
 mod written;
 
 pub use claims::{
@@ -30,6 +31,7 @@ pub use starts::{
     near_is_enough, none_fits_as_the_start, start_answers_are_shared, starts_are_right,
     starts_are_there_and_one, starts_by_covering, starts_fit_if_any, strongest_nodes,
 };
+pub use worked::{kind_tests_are_kept, mails_are_kept, outer_patterns_are_kept};
 pub use written::{
     broken_or_designed_early, early_is_designed, gathered_selects, read_as_selects, read_back,
     written_answers,
