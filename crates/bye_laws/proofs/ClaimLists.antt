@@ -10,14 +10,14 @@ use Rattle.bye_table.specs.Mappings.{Binds, Exactly, Mapping, Name, merge, row_m
 use Rattle.bye_pattern.specs.declared.cond.Cond.{Cond}
 use Rattle.bye_pattern.specs.declared.cond.Cond.TheVariants as conds
 use Rattle.bye_pattern.specs.declared.level.Level.{Level}
-use Rattle.bye_pattern.specs.Certificates.{ShowsAdmitted, ShowsExtension, ShowsUncovered}
+use Rattle.bye_pattern.specs.Certificates.{BindsClass, IsOpenAt, ShowsAdmitted, ShowsExtension, ShowsUncovered}
 use Rattle.bye_pattern.specs.Common.{IsCommonCond}
 use Rattle.bye_pattern.specs.Conjuncts.{MeetsCond}
 use Rattle.bye_pattern.specs.Patterns.{Meets, Pattern, all_vars}
 use Rattle.bye_pattern.specs.Starting.{IsInForm, IsStartNode}
 use Rattle.bye_pattern.specs.Trees.{leaf, node}
 use Rattle.bye_pattern.proofs.OneGroup.{all_vars_in, in_all_vars}
-use Rattle.bye_laws.specs.Claiming.{IsExtended, listing, with_value}
+use Rattle.bye_laws.specs.Claiming.{listing, with_value}
 use Rattle.bye_laws.specs.Completeness.{AreExamples}
 use Rattle.bye_laws.specs.Ordering.{IsSorted}
 use Rattle.bye_laws.specs.Reaching.{MeetsNode}
@@ -86,39 +86,31 @@ admitted_by_list level g rows unwanted j vs ps cs some exact n = (
 
 -- a row is extended where with the values it meets the node's lists
 pub extension_by_list : (level : Level) (g : List Statement) (w : Wanted) (i : ℕ) (x : Name) (values : Mapping) (ps : List Pattern) (cs : List Cond) → AreExamples w → IsStartNode level g w x ps cs
-    → ShowsExtension level g w.rows i x values ↔ IsExtended g w.rows i x values ps cs
+    → ShowsExtension level g w.rows i x values ↔ ((m : Mapping) × IsOpenAt w.rows i x m × BindsClass w.rows x values × MeetsNode g (merge m values) (node ps cs leaf))
 extension_by_list level g w i x values ps cs examples n = (
-  (λ claim. record {
-    seen = claim.seen;
-    row = claim.row;
-    row_at = claim.row_at;
-    lacks = claim.lacks;
-    around = claim.around;
-    some_around = claim.some_around;
-    binds = claim.binds;
-    meets = (
+  (λ claim. (
+    claim.row,
+    claim.place,
+    claim.binds,
+    (
       all_from (Meets g (merge claim.row values)) ps (λ p h. claim.triples p ((n.triples p).0 h)),
       all_from (MeetsCond (merge claim.row values)) cs (λ c h. claim.conditions c ((n.conditions c).0 h).0),
-    );
-  }),
-  (λ claim. record {
-    seen = claim.seen;
-    row = claim.row;
-    row_at = claim.row_at;
-    lacks = claim.lacks;
-    around = claim.around;
-    some_around = claim.some_around;
-    binds = claim.binds;
-    triples = λ p common. all_in (Meets g (merge claim.row values)) ps p claim.meets.0 ((n.triples p).1 common);
+    ),
+  )),
+  (λ (m, place, class, met). record {
+    row = m;
+    place = place;
+    binds = class;
+    triples = λ p common. all_in (Meets g (merge m values)) ps p met.0 ((n.triples p).1 common);
     conditions = λ c common.
-        let d = in_form level w.vars w.rows x (λ v up. examples.within v (seen_up w.rows x v claim.seen up)) cs n.conditions c common in
-        d.2 (merge claim.row values) (all_in (MeetsCond (merge claim.row values)) cs d.0 claim.meets.1 d.1);
+        let d = in_form level w.vars w.rows x (λ v up. examples.within v (seen_up w.rows x v place.seen up)) cs n.conditions c common in
+        d.2 (merge m values) (all_in (MeetsCond (merge m values)) cs d.0 met.1 d.1);
   }),
 )
 
 -- the values in the table's order are the same
 pub values_same : (level : Level) (g : List Statement) (w : Wanted) (i : ℕ) (x : Name) (values : Mapping) → AreExamples w → ShowsExtension level g w.rows i x values → row_mapping (listing w.vars values) ≡ values
-values_same level g w i x values examples claim = listed_whole w.vars values (λ v b. examples.within v (seen_up w.rows x v claim.seen ((claim.binds v).0 b).0))
+values_same level g w i x values examples claim = listed_whole w.vars values (λ v b. examples.within v (seen_up w.rows x v claim.place.seen ((claim.binds v).0 b).0))
 
 -- and there are some
 pub values_some : (level : Level) (g : List Statement) (w : Wanted) (i : ℕ) (x : Name) (values : Mapping) → AreExamples w → ShowsExtension level g w.rows i x values → listing w.vars values ≡ [] → ⊥

@@ -10,7 +10,7 @@ use Rattle.bye_table.specs.Mappings.{Binds, Exactly, Mapping, Name, first_of, me
 use Rattle.bye_table.proofs.Merging.{binds, in_or_not, unbound}
 use Rattle.bye_pattern.specs.declared.cond.Cond.{Cond}
 use Rattle.bye_pattern.specs.declared.level.Level.{Level}
-use Rattle.bye_pattern.specs.Certificates.{BindsOne, ShowsAdmitted, ShowsDomains, ShowsExtension, ShowsFork, ShowsNoRoot, ShowsUncovered}
+use Rattle.bye_pattern.specs.Certificates.{BindsClass, BindsOne, IsOpenAt, ShowsAdmitted, ShowsDomains, ShowsExtension, ShowsFork, ShowsNoRoot, ShowsUncovered}
 use Rattle.bye_pattern.specs.Common.{IsCommon, IsCommonCond}
 use Rattle.bye_pattern.specs.Conditions.{cond_vars}
 use Rattle.bye_pattern.specs.Conjuncts.{MeetsCond}
@@ -199,17 +199,11 @@ admitted_or_not level g rows unwanted header vs inside some exact j =
 pub one_domain_seen : (w : Wanted) (x : Name) → AreExamples w → NoDomains w.rows → BindsEach w.rows x → AllByRecursion (Exactly (seen_list w.rows w.vars).0) w.rows
 one_domain_seen w x examples never bound = (has_one_domain w examples x bound (one_domain w.rows never)).exact
 
--- a row lacks x and binds each variable of a greater domain, of which there is one
-record IsOpenAt (rows : List Mapping) (m : Mapping) (x : Name) : Type 0 where
-  lacks : Binds m x → ⊥
-  around : (y : Name) → IsSeen rows y → IsBelow rows x y → Binds m y
-  some_around : (y : Name) × IsSeen rows y × IsBelow rows x y
-
--- it is so or is not
-open_or_not : (w : Wanted) → AreExamples w → (m : Mapping) (x : Name) → IsOpenAt w.rows m x ⊎ (IsOpenAt w.rows m x → ⊥)
-open_or_not w examples m x =
+-- a row is open at a variable or is not
+open_or_not : (w : Wanted) → AreExamples w → (i : ℕ) (x : Name) (m : Mapping) → IsSeen w.rows x → IsRowAt w.rows i m → IsOpenAt w.rows i x m ⊎ (IsOpenAt w.rows i x m → ⊥)
+open_or_not w examples i x m seen at =
     same_decided
-    (λ h. record { lacks = h.0; around = h.1.0; some_around = (h.1.1.0, h.1.1.1.0, h.1.1.1.1) })
+    (λ h. record { seen = seen; row_at = at; lacks = h.0; around = h.1.0; some_around = (h.1.1.0, h.1.1.1.0, h.1.1.1.1) })
     (λ o. (o.lacks, (o.around, (o.some_around.0, (o.some_around.1, o.some_around.2)))))
     (both_or_not (not_or_not (binds_or_not m x)) (both_or_not
     (every_or_not (λ y. IsSeen w.rows y → IsBelow w.rows x y → Binds m y)
@@ -235,10 +229,6 @@ met_at_or_not level g w x m e examples seen =
     (λ c. implied_or_not (cond_at_or_not level w.rows x c) (met_or_not (merge m e) c))
     (cond_shapes w.vars seen.0)
     (λ c never. ⊎_elim (λ common. common_cond_shape level w x c examples seen common) (λ n. absurd (never (λ common. absurd (n common)))) (cond_at_or_not level w.rows x c)))
-
--- the values bind exactly the class of x
-abbrev BindsClass : List Mapping → Name → Mapping → Type 0
-BindsClass rows x e = (v : Name) → (Binds e v → AreAlike rows x v) × (AreAlike rows x v → Binds e v)
 
 -- where no variable is uncovered, the values with which all that is common is met are terms of the graph
 value_told : (level : Level) (g : List Statement) (w : Wanted) (x : Name) (m e : Mapping) → AreExamples w → NoneUncovered g w.rows → IsSeen w.rows x → In w.rows m
@@ -272,10 +262,9 @@ values_extend_or_none level g w x m examples covered seen row lacks =
 
 -- what an extension says of the row of its number
 extended_row : (level : Level) (g : List Statement) (rows : List Mapping) (i : ℕ) (x : Name) (e m : Mapping) → IsRowAt rows i m → ShowsExtension level g rows i x e
-    → IsOpenAt rows m x × IsMetAt level g rows x m e
+    → IsOpenAt rows i x m × IsMetAt level g rows x m e
 extended_row level g rows i x e m at c =
-    subst (λ m. IsOpenAt rows m x × IsMetAt level g rows x m e) (one_at rows i c.row m c.row_at at)
-    (record { lacks = c.lacks; around = c.around; some_around = c.some_around }, (c.triples, c.conditions))
+    subst (λ m. IsOpenAt rows i x m × IsMetAt level g rows x m e) (one_at rows i c.row m c.place.row_at at) (c.place, (c.triples, c.conditions))
 
 -- where no variable is uncovered, some values extend the row of a number at x or none do
 pub extendable_or_not : (level : Level) (g : List Statement) (w : Wanted) (i : ℕ) (x : Name) → AreExamples w → NoneUncovered g w.rows
@@ -285,27 +274,14 @@ extendable_or_not level g w i x examples covered =
     (λ seen. ⊎_elim
     (λ r. ⊎_elim
     (λ o. ⊎_elim
-    (λ h. inl (
-      h.0,
-      record {
-        seen = seen;
-        row = r.0;
-        row_at = r.1;
-        lacks = o.lacks;
-        around = o.around;
-        some_around = o.some_around;
-        binds = h.1;
-        triples = h.2.0;
-        conditions = h.2.1;
-      },
-    ))
+    (λ h. inl (h.0, record { row = r.0; place = o; binds = h.1; triples = h.2.0; conditions = h.2.1 }))
     (λ none. inr (λ c. none c.0 c.1.binds (extended_row level g w.rows i x c.0 r.0 r.1 c.1).1))
     (values_extend_or_none level g w x r.0 examples covered seen (at_in w.rows i r.0 r.1) o.lacks))
     (λ shut. inr (λ c. shut (extended_row level g w.rows i x c.0 r.0 r.1 c.1).0))
-    (open_or_not w examples r.0 x))
-    (λ none. inr (λ c. none c.1.row c.1.row_at))
+    (open_or_not w examples i x r.0 seen r.1))
+    (λ none. inr (λ c. none c.1.row c.1.place.row_at))
     (row_or_none w.rows i))
-    (λ n. inr (λ c. n c.1.seen))
+    (λ n. inr (λ c. n c.1.place.seen))
     (seen_or_not w.rows x)
 
 -- what is common at a greater domain is common at a smaller one, of conditions too
@@ -320,12 +296,14 @@ lower_condition level rows x v c up common = record {
 pub extension_alike : (level : Level) (g : List Statement) (rows : List Mapping) (i : ℕ) (x y : Name) (e : Mapping) → AreAlike rows x y → ShowsExtension level g rows i x e
     → ShowsExtension level g rows i y e
 extension_alike level g rows i x y e alike c = record {
-  seen = seen_up rows x y c.seen alike.0;
   row = c.row;
-  row_at = c.row_at;
-  lacks = λ b. c.lacks (within_row rows c.row y x (at_in rows i c.row c.row_at) alike.1 b);
-  around = λ z seen below. c.around z seen (within_below rows x y z alike.0 below);
-  some_around = (c.some_around.0, c.some_around.1, within_below rows y x c.some_around.0 alike.1 c.some_around.2);
+  place = record {
+    seen = seen_up rows x y c.place.seen alike.0;
+    row_at = c.place.row_at;
+    lacks = λ b. c.place.lacks (within_row rows c.row y x (at_in rows i c.row c.place.row_at) alike.1 b);
+    around = λ z seen below. c.place.around z seen (within_below rows x y z alike.0 below);
+    some_around = let z = c.place.some_around in (z.0, z.1, within_below rows y x z.0 alike.1 z.2);
+  };
   binds = λ v. (
     (λ b. alike_trans rows y x v (alike.1, alike.0) ((c.binds v).0 b)),
     (λ h. (c.binds v).1 (alike_trans rows x y v alike h)),

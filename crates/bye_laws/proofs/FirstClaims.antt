@@ -94,13 +94,13 @@ first_uncovered g w examples =
 first_extension : (level : Level) (g : List Statement) (w : Wanted) (unwanted : List Mapping) → AreExamples w → (ShowsNoRoot w.rows → ⊥) → NoFork w.rows → NoneUncovered g w.rows
     → ((claim : Claim) × IsFirstClaim Optional level g w unwanted claim) ⊎ ((i : ℕ) (x : Name) → IsExtendable level g w.rows i x → ⊥)
 first_extension level g w unwanted examples root fork covered =
-    let inside : (i : ℕ) (y : Name) → IsExtendable level g w.rows i y → In w.vars y = λ i y c. examples.within y c.1.seen in
+    let inside : (i : ℕ) (y : Name) → IsExtendable level g w.rows i y → In w.vars y = λ i y c. examples.within y c.1.place.seen in
     ⊎_elim
     (λ least. let i : ℕ = least.0 in
     ⊎_elim
     (λ first. let x : Name = first.0 in
     let c = (first_has (λ y. IsFirstOfClass w y × IsExtendable level g w.rows i y) w.vars x first.1).1.1 in
-    let same : row_mapping (listing w.vars c.0) ≡ c.0 = listed_whole w.vars c.0 (λ v b. examples.within v (seen_up w.rows x v c.1.seen ((c.1.binds v).0 b).0)) in
+    let same : row_mapping (listing w.vars c.0) ≡ c.0 = listed_whole w.vars c.0 (λ v b. examples.within v (seen_up w.rows x v c.1.place.seen ((c.1.binds v).0 b).0)) in
     inl (
       Extension i x (listing w.vars c.0),
       (
@@ -114,13 +114,13 @@ first_extension level g w unwanted examples root fork covered =
       ),
     ))
     (λ none. let c = least.1.0 in
-    let f = class_first w examples c.0 c.1.1.seen in
+    let f = class_first w examples c.0 c.1.1.place.seen in
     absurd (none f.0 (examples.within f.0 f.1.seen) (f.1, (c.1.0, extension_alike level g w.rows i c.0 f.0 c.1.0 (f.2.1, f.2.0) c.1.1))))
     (first_or_none (λ y. IsFirstOfClass w y × IsExtendable level g w.rows i y) (λ y. both_or_not (first_or_not w examples y) (extendable_or_not level g w i y examples covered)) w.vars))
     (λ none. inr (λ i x c. none i (x, c)))
     (least_row_or_none w.rows (λ k. (y : Name) × IsExtendable level g w.rows k y)
     (λ k. some_or_not (IsExtendable level g w.rows k) (λ y. extendable_or_not level g w k y examples covered) w.vars (inside k))
-    (λ k c. (c.1.1.row, c.1.1.row_at)))
+    (λ k c. (c.1.1.row, c.1.1.place.row_at)))
 
 -- where no kind of claim shows, none of the class does
 none_of_conjunction : (level : Level) (g : List Statement) (rows unwanted : List Mapping) → NoDomains rows → (ShowsNoRoot rows → ⊥) → NoneUncovered g rows

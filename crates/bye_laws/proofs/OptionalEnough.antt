@@ -62,12 +62,14 @@ values_extend level g header rows heads covered m row parent z (domain y ds) (no
     (λ shut. let w = bound (m v) (greater v (seen_up rows y v seen h) h shut) in merge_left m small v k (w.1 ∙ sym (merge_left m e v w.0 w.1) ∙ a))
     (within_or_not rows v y) in
     record {
-      seen = seen;
       row = m;
-      row_at = at;
-      lacks = lacks;
-      around = λ v k below. greater v k below.0 below.1;
-      some_around = (z, z_seen, (z_up, z_shut));
+      place = record {
+        seen = seen;
+        row_at = at;
+        lacks = lacks;
+        around = λ v k below. greater v k below.0 below.1;
+        some_around = (z, z_seen, (z_up, z_shut));
+      };
       binds = λ v. (
         λ b. pick_some (alike_or_not rows y v) (e v) b,
         λ h. let b = all_meets_bind g (merge m e) ps v met.0 (own_from g rows covered y ps same v (seen_up rows y v seen h.0) h.0) in

@@ -144,13 +144,13 @@ optional_uncovered_none level g rows unwanted x bad q class fits = fits_cover le
 pub extension_none : (level : Level) → (g : List Statement) (rows unwanted : List Mapping) (i : ℕ) (x : Name) (e : Mapping) → ShowsExtension level g rows i x e → NoFit (InOptional level rows) g rows unwanted
 extension_none level g rows unwanted i x e claim q class fits =
     let m = claim.row in
-    let row = at_in rows i m claim.row_at in
-    let c = child_of level rows q class m row x claim.seen claim.lacks in
-    let n = none_of level g rows q class fits.all m row x claim.lacks (λ v s up shut. claim.around v s (up, shut)) c in
+    let row = at_in rows i m claim.place.row_at in
+    let c = child_of level rows q class m row x claim.place.seen claim.place.lacks in
+    let n = none_of level g rows q class fits.all m row x claim.place.lacks (λ v s up shut. claim.place.around v s (up, shut)) c in
     let k = class.classes c.p c.u c.here in
     let k_x = (k.1.1 x).0 c.new in
     let common = conjuncts_common level g rows q class fits.all c.p c.u c.here x c.new in
     n.0 e
     (λ v b. let same = (claim.binds v).0 b in ((k.1.1 v).1 (within_trans rows k.0 x v k_x.0 same.0, within_trans rows v x k.0 same.1 k_x.1)).0)
-    (λ v s t a b. absurd (claim.lacks (within_row rows m v x row ((claim.binds v).0 (binds (e v) t b)).1 (binds (m v) s a))))
+    (λ v s t a b. absurd (claim.place.lacks (within_row rows m v x row ((claim.binds v).0 (binds (e v) t b)).1 (binds (m v) s a))))
     (all_from (Meets g (merge m e)) (own_triples c.u) (λ p h. claim.triples p (common.0 p h)), all_from (MeetsCond (merge m e)) (own_conds c.u) (λ p h. claim.conditions p (common.1 p h)))

@@ -65,7 +65,7 @@ mutual
 -- a certificate of an extension, from its values as a mapping
 extension_listed : (level : Level) → (g : List Statement) (w : Wanted) (i : ℕ) (x : Name) (e : Mapping) → AreExamples w → ShowsExtension level g w.rows i x e → ShowsExtension level g w.rows i x (row_mapping (listing w.vars e))
 extension_listed level g w i x e examples shown =
-    subst (ShowsExtension level g w.rows i x) (sym (listed_whole w.vars e (λ v b. examples.within v (seen_up w.rows x v shown.seen ((shown.binds v).0 b).0)))) shown
+    subst (ShowsExtension level g w.rows i x) (sym (listed_whole w.vars e (λ v b. examples.within v (seen_up w.rows x v shown.place.seen ((shown.binds v).0 b).0)))) shown
 
 -- where no query fits, it is not so that no certificate shows it
 pub optional_enough : (level : Level) → (g : List Statement) (w : Wanted) → AreExamples w → NoFit (InOptional level w.rows) g w.rows []

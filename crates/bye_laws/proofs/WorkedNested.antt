@@ -235,27 +235,27 @@ nested_right level g rows x m ps qs cs ds is =
         (cases rows x m is.lists.nested v claim.seen)
 
     lacks_root : (i : ℕ) (values : Mapping) → ShowsExtension level g rows i x values → ⊥
-    lacks_root i values claim = claim.lacks (all_in (λ r. Binds r x) rows claim.row is.lists.nested.root (at_in rows i claim.row claim.row_at))
+    lacks_root i values claim = claim.place.lacks (all_in (λ r. Binds r x) rows claim.row is.lists.nested.root (at_in rows i claim.row claim.place.row_at))
 
     lacks_child : (i : ℕ) (values : Mapping) → ShowsExtension level g rows i m values → ⊥
     lacks_child i values claim =
-        let w = (extension_by_list level g (examples_of rows x m) i m values qs ds is.lists.nested.examples nodes.1.0.0).0 claim in
-        let row = at_in rows i w.row w.row_at in
-        let bound = all_in (λ r. Binds r x) rows w.row is.lists.nested.root row in
+        let (r, place, class, met) = (extension_by_list level g (examples_of rows x m) i m values qs ds is.lists.nested.examples nodes.1.0.0).0 claim in
+        let row = at_in rows i r place.row_at in
+        let bound = all_in (λ k. Binds k x) rows r is.lists.nested.root row in
         let fresh : (v : Name) → Binds values v → m ≡ v = λ v b. ⊎_elim
-        (λ e. absurd (is.lists.nested.apart (subst (λ v. IsWithin rows v m) (sym e) ((w.binds v).0 b).1)))
+        (λ e. absurd (is.lists.nested.apart (subst (λ v. IsWithin rows v m) (sym e) ((class v).0 b).1)))
         (λ e. e)
-        (cases rows x m is.lists.nested v (seen_up rows m v is.lists.nested.seen ((w.binds v).0 b).0)) in
-        all_in (λ r. Binds r x → (Binds r m → ⊥) → NoValues g r (node qs ds leaf)) rows w.row is.shut row bound w.lacks values
+        (cases rows x m is.lists.nested v (seen_up rows m v is.lists.nested.seen ((class v).0 b).0)) in
+        all_in (λ k. Binds k x → (Binds k m → ⊥) → NoValues g k (node qs ds leaf)) rows r is.shut row bound place.lacks values
         (λ v b. subst (In (all_vars qs)) (fresh v b) is.child)
-        (λ v s t left right. absurd (w.lacks (subst (Binds w.row) (sym (fresh v (binds (values v) t right))) (binds (w.row v) s left))))
-        w.meets
+        (λ v s t left right. absurd (place.lacks (subst (Binds r) (sym (fresh v (binds (values v) t right))) (binds (r v) s left))))
+        met
 
     closed : (i : ℕ) (v : Name) (values : Mapping) → ShowsExtension level g rows i v values → ⊥
     closed i v values claim = ⊎_elim
         (λ e. lacks_root i values (subst (λ v. ShowsExtension level g rows i v values) (sym e) claim))
         (λ e. lacks_child i values (subst (λ v. ShowsExtension level g rows i v values) (sym e) claim))
-        (cases rows x m is.lists.nested v claim.seen)
+        (cases rows x m is.lists.nested v claim.place.seen)
 
 -- it is settled at its root
 start_settled : (level : Level) (g : List Statement) (rows : List Mapping) (x m : Name) (ps qs : List Pattern) (cs ds : List Cond) → IsRightStart level g rows x m ps qs cs ds

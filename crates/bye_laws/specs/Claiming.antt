@@ -4,31 +4,14 @@ use Rattle.std.specs.List.{AllByRecursion}
 use Rattle.bye_terms.specs.declared.term.Term.{Term}
 use Rattle.bye_terms.specs.Members.{In}
 use Rattle.bye_terms.specs.Terms.{Statement}
-use Rattle.bye_table.specs.Mappings.{Binds, Exactly, Mapping, Name, NoRepeat, Pairs, merge, row_mapping}
-use Rattle.bye_table.specs.Domains.{AreAlike, IsBefore, IsBelow, IsRowAt, IsSeen, Wanted}
+use Rattle.bye_table.specs.Mappings.{Exactly, Mapping, Name, NoRepeat, Pairs, merge, row_mapping}
+use Rattle.bye_table.specs.Domains.{IsBefore, IsRowAt, IsSeen, Wanted}
 use Rattle.bye_table.specs.DomainTrees.{IsFirstOfClass}
 use Rattle.bye_pattern.specs.declared.class.Class.{Class}
 use Rattle.bye_pattern.specs.declared.class.Class.TheVariants.{And, Optional}
 use Rattle.bye_pattern.specs.declared.cond.Cond.{Cond}
 use Rattle.bye_pattern.specs.declared.level.Level.{Level}
-use Rattle.bye_pattern.specs.Certificates.{
-  Admitted,
-  CertificateValue,
-  Claim,
-  Domains,
-  Extension,
-  Fork,
-  IsShown,
-  NoRoot,
-  Shows,
-  ShowsAdmitted,
-  ShowsDomains,
-  ShowsExtension,
-  ShowsFork,
-  ShowsNoRoot,
-  ShowsUncovered,
-  Uncovered,
-}
+use Rattle.bye_pattern.specs.Certificates.{Admitted, BindsClass, CertificateValue, Claim, Domains, Extension, Fork, IsOpenAt, IsShown, NoRoot, Shows, ShowsAdmitted, ShowsDomains, ShowsExtension, ShowsFork, ShowsNoRoot, ShowsUncovered, Uncovered}
 use Rattle.bye_pattern.specs.Fitting.{NoFit}
 use Rattle.bye_pattern.specs.Keeping.{IsOfClass}
 use Rattle.bye_pattern.specs.Patterns.{Pattern, all_vars}
@@ -39,18 +22,6 @@ use Rattle.bye_laws.specs.Ordering.{IsSorted}
 use Rattle.bye_laws.specs.Reaching.{MeetsNode}
 use Rattle.bye_laws.specs.Strongest.{IsStrongestNode}
 
--- row I of the wanted rows with these values meets the node: it lacks x and binds each variable of a greater domain, of which
--- there is one, and the values bind exactly the class of x
-pub record IsExtended (g : List Statement) (rows : List Mapping) (i : ℕ) (x : Name) (values : Mapping) (ps : List Pattern) (cs : List Cond) : Type 0 where
-  pub seen : IsSeen rows x
-  pub row : Mapping
-  pub row_at : IsRowAt rows i row
-  pub lacks : Binds row x → ⊥
-  pub around : (y : Name) → IsSeen rows y → IsBelow rows x y → Binds row y
-  pub some_around : (y : Name) × IsSeen rows y × IsBelow rows x y
-  pub binds : (v : Name) → (Binds values v → AreAlike rows x v) × (AreAlike rows x v → Binds values v)
-  pub meets : MeetsNode g (merge row values) (node ps cs leaf)
-
 -- a claim shows exactly where the lists of a node say so: what they lack, and who meets them
 pub record ClaimsByLists : Type 0 where
   pub uncovered : (level : Level) (g : List Statement) (w : Wanted) (x : Name) (ps : List Pattern) (cs : List Cond) → IsStartNode level g w x ps cs
@@ -59,7 +30,7 @@ pub record ClaimsByLists : Type 0 where
       → AllByRecursion (Exactly vs) rows → IsStrongestNode level g vs rows ps cs
       → ShowsAdmitted level g rows unwanted j ↔ ((m : Mapping) × IsRowAt unwanted j m × Exactly vs m × MeetsNode g m (node ps cs leaf))
   pub extension : (level : Level) (g : List Statement) (w : Wanted) (i : ℕ) (x : Name) (values : Mapping) (ps : List Pattern) (cs : List Cond) → AreExamples w → IsStartNode level g w x ps cs
-      → ShowsExtension level g w.rows i x values ↔ IsExtended g w.rows i x values ps cs
+      → ShowsExtension level g w.rows i x values ↔ ((m : Mapping) × IsOpenAt w.rows i x m × BindsClass w.rows x values × MeetsNode g (merge m values) (node ps cs leaf))
 
 -- the value of a variable, where there is one, before others
 abbrev pub with_value : Name → Option Term → Pairs → Pairs

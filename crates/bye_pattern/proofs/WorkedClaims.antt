@@ -252,12 +252,14 @@ extension = record {
     shown = (
       (refl, tt),
       record {
-        seen = (row_mapping first_row, inl refl, refl);
         row = row_mapping third_row;
-        row_at = refl;
-        lacks = not_bound m third_row refl;
-        around = around;
-        some_around = (x, (row_mapping first_row, inl refl, refl), (m_within_x, x_not_within_m));
+        place = record {
+          seen = (row_mapping first_row, inl refl, refl);
+          row_at = refl;
+          lacks = not_bound m third_row refl;
+          around = around;
+          some_around = (x, (row_mapping first_row, inl refl, refl), (m_within_x, x_not_within_m));
+        };
         binds = value_binds;
         triples = λ p common. extended_meets p (listed mailed first_row (first_row ∷ second_row ∷ []) p
             ((refl, refl), ((refl, refl), ((refl, refl), ((refl, refl), ((refl, refl), ((refl, refl), tt))))))
@@ -266,7 +268,7 @@ extension = record {
       },
     );
   };
-  other_value = λ h. other h.shown.1.row h.shown.1.row_at (h.shown.1.triples has_mail mail_common);
+  other_value = λ h. other h.shown.1.row h.shown.1.place.row_at (h.shown.1.triples has_mail mail_common);
   twice = λ h. bound_twice h.shown.0.0;
 }
   where

@@ -92,17 +92,23 @@ pub record ShowsAdmitted (level : Level) (g : List Statement) (rows unwanted : L
   pub triples : (p : Pattern) → IsCommon g domain rows p → Meets g row p
   pub conditions : (c : Cond) → IsCommonCond level domain rows c → MeetsCond row c
 
--- a wanted row that lacks x is extended by values that meet whatever is common at x
-pub record ShowsExtension (level : Level) (g : List Statement) (rows : List Mapping) (i : ℕ) (x : Name) (values : Mapping) : Type 0 where
+-- a wanted row that lacks x and binds each variable of a greater domain, of which there is one
+pub record IsOpenAt (rows : List Mapping) (i : ℕ) (x : Name) (row : Mapping) : Type 0 where
   pub seen : IsSeen rows x
-  pub row : Mapping
   pub row_at : IsRowAt rows i row
   pub lacks : Binds row x → ⊥
-  -- the row binds each variable of a greater domain, and there is one
   pub around : (y : Name) → IsSeen rows y → IsBelow rows x y → Binds row y
   pub some_around : (y : Name) × IsSeen rows y × IsBelow rows x y
-  -- the values bind exactly the domain class of x
-  pub binds : (v : Name) → (Binds values v → AreAlike rows x v) × (AreAlike rows x v → Binds values v)
+
+-- the values bind exactly the domain class of x
+abbrev pub BindsClass : List Mapping → Name → Mapping → Type 0
+BindsClass rows x values = (v : Name) → (Binds values v → AreAlike rows x v) × (AreAlike rows x v → Binds values v)
+
+-- a wanted row that is open at x is extended by values that meet whatever is common at x
+pub record ShowsExtension (level : Level) (g : List Statement) (rows : List Mapping) (i : ℕ) (x : Name) (values : Mapping) : Type 0 where
+  pub row : Mapping
+  pub place : IsOpenAt rows i x row
+  pub binds : BindsClass rows x values
   -- with them the row meets whatever over Up(x) all wanted rows binding x meet
   pub triples : (p : Pattern) → IsCommonAt g rows x p → Meets g (merge row values) p
   pub conditions : (c : Cond) → IsCommonCondAt level rows x c → MeetsCond (merge row values) c
