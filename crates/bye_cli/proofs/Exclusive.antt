@@ -2,9 +2,9 @@
 use Rattle.std.proofs.Common.{◌≡◌, refl, ℕ, ◌<◌, List, [], ◌∷◌, length, Option, Some, None, inl, inr, sym, ◌∙◌, ap, subst, arith}
 use Rattle.bye_terms.specs.Terms.{Statement}
 use Rattle.bye_table.specs.Mappings.{Pairs}
-use Rattle.bye_pattern.specs.Tables.{TableValue}
+use Rattle.bye_table.specs.Tables.{TableValue}
 use Rattle.bye_words.specs.Pairs.{Word}
-use Rattle.bye_cli.specs.Words.{Command, Learn, Convert, IsCommand, IsSomeCommand}
+use Rattle.bye_cli.specs.Words.{Command, Learn, Convert, ConvertTable, IsCommand, IsSomeCommand}
 use Rattle.bye_cli.specs.Documents.{Files, IsTold, Document, due, Value, Triples, Rows, TooMany, Faulty, Good, HasVerdict, Reaches}
 use Rattle.bye_cli.specs.Problem.{IsGiven}
 use Rattle.bye_cli.specs.Causes.{IsFaulty, IsPast, IsMissing, IsWithoutRow, IsAskedCase}
@@ -133,14 +133,14 @@ way_of files words Faults (role, fault, (command, is, stop)) = record {
   command = command;
   is = is;
   halt = Stop (Judged (Faulty fault));
-  halts = record { at = (role, stop.name); reached = stop.reached; state = stop.has; holds = tt };
+  halts = record { at = stop.document; reached = stop.reached; state = stop.has; holds = tt };
   same = refl;
 }
 way_of files words Past (role, count, (command, is, stop)) = record {
   command = command;
   is = is;
   halt = Stop (Judged (TooMany count));
-  halts = record { at = (role, stop.name); reached = stop.reached; state = stop.has; holds = tt };
+  halts = record { at = stop.document; reached = stop.reached; state = stop.has; holds = tt };
   same = refl;
 }
 way_of files words Missing (command, is, (d, reached, lacks)) = record {
@@ -151,24 +151,31 @@ way_of files words Missing (command, is, (d, reached, lacks)) = record {
   same = refl;
 }
 way_of files words Bare (graph, wanted, given, none) = record {
-  command = Learn given.graph_name given.wanted_name;
+  command = Learn given.graph_name given.wanted_name given.tables;
   is = given.learn;
   halt = End (Triples graph ∷ Rows wanted ∷ []);
   halts = (given.graph_held, (given.wanted_held, tt));
   same = ap rows_ending none;
 }
 way_of files words Asked (inl (graph, wanted, asked)) = record {
-  command = Learn asked.given.graph_name asked.given.wanted_name;
+  command = Learn asked.given.graph_name asked.given.wanted_name asked.given.tables;
   is = asked.given.learn;
   halt = End (Triples graph ∷ Rows wanted ∷ []);
   halts = (asked.given.graph_held, (asked.given.wanted_held, tt));
   same = some_rows wanted.rows asked.some_row;
 }
-way_of files words Asked (inr (graph, asked)) = record {
+way_of files words Asked (inr (inl (graph, asked))) = record {
   command = Convert asked.graph_name;
   is = asked.convert;
   halt = End (Triples graph ∷ []);
   halts = (asked.graph_held, tt);
+  same = refl;
+}
+way_of files words Asked (inr (inr (table, to, asked))) = record {
+  command = ConvertTable asked.table_name asked.from to;
+  is = asked.convert;
+  halt = End (Rows table ∷ []);
+  halts = (asked.table_held, tt);
   same = refl;
 }
 
@@ -198,8 +205,8 @@ pub same_given : (files : Files) (words : List Word) (graph other : List Stateme
 unfolding first_value second_value
 same_given None words graph other wanted table told h k = absurd told
 same_given (Some files) words graph other wanted table told h k =
-    let same = one_command words (Learn h.graph_name h.wanted_name) (Learn k.graph_name k.wanted_name) h.learn k.learn in
+    let same = one_command words (Learn h.graph_name h.wanted_name h.tables) (Learn k.graph_name k.wanted_name k.tables) h.learn k.learn in
     let values =
-    same_values files (due (Learn k.graph_name k.wanted_name)) (Triples graph ∷ Rows wanted ∷ []) (Triples other ∷ Rows table ∷ [])
+    same_values files (due (Learn k.graph_name k.wanted_name k.tables)) (Triples graph ∷ Rows wanted ∷ []) (Triples other ∷ Rows table ∷ [])
     (subst (λ c. Say (Some files) (due c) (Triples graph ∷ Rows wanted ∷ [])) same (h.graph_held, (h.wanted_held, tt))) (k.graph_held, (k.wanted_held, tt)) in
     (ap (λ vs. first_value vs graph) values, ap (λ vs. second_value vs wanted) values)

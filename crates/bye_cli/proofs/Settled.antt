@@ -2,14 +2,14 @@
 use Rattle.std.proofs.Common.{◌≡◌, refl, ℕ, ◌≤◌, List, Option, Ok, Err, inl, inr, ◌⊎◌, ⊎_elim, sym, ◌∙◌, ap, subst, ◌↔◌, arith}
 use Rattle.bye_io.specs.Counts.{Rose}
 use Rattle.bye_terms.specs.Terms.{Statement}
-use Rattle.bye_pattern.specs.Tables.{TableValue}
+use Rattle.bye_table.specs.Tables.{TableValue}
 use Rattle.bye_words.specs.Pairs.{Word}
-use Rattle.bye_cli.specs.Words.{IsNoCommand, IsSomeCommand, IsSomeConvert}
+use Rattle.bye_cli.specs.Words.{IsLearn, IsNoCommand, IsSomeCommand, IsSomeConvert}
 use Rattle.bye_cli.specs.Documents.{Files, IsTold}
 use Rattle.bye_cli.specs.Problem.{IsAsked, IsQueryText, IsRefusalLine, IsDoneOutput, IsRefusedOutput, IsOutput}
-use Rattle.bye_cli.specs.Converting.{IsConverted, IsConversion}
+use Rattle.bye_cli.specs.Converting.{IsConverted, IsTableConverted, IsConversion}
 use Rattle.bye_cli.specs.Headline.{NoneFits, Headline}
-use Rattle.bye_cli.specs.Causes.{IsCause, IsReason, IsFailure, IsUnreadable, IsMissing, IsWithoutRow, IsQuiet, IsAskedCase}
+use Rattle.bye_cli.specs.Causes.{IsCause, IsReason, IsFailure, IsFaulty, IsUnreadable, IsMissing, IsWithoutRow, IsQuiet, IsAskedCase}
 use Rattle.bye_words.specs.Lines.{err_line}
 use Rattle.bye_words.specs.Statuses.{number_of, status_of}
 use Rattle.bye_cli.specs.Messages.{SendsLine, IsReport, IsMessage}
@@ -20,7 +20,7 @@ use Rattle.bye_words.specs.declared.refusal.Refusal.{Refusal}
 use Rattle.bye_words.specs.declared.refusal.Refusal.TheVariants as refusals
 use Rattle.bye_words.specs.declared.status.Status.{Status}
 use Rattle.bye_words.specs.declared.status.Status.TheVariants as statuses
-use Rattle.bye_cli.proofs.Commands.{not_both}
+use Rattle.bye_cli.proofs.Commands.{not_both, not_table}
 use Rattle.bye_cli.proofs.Exclusive.{Ending, Faults, Past, Missing, Bare, Asked, Ends, one_ending, some_command, same_given}
 
 -- what a run tells of how it ends
@@ -32,7 +32,7 @@ pub record Run (files : Files) (words : List Word) (before now out_before out_no
   pub failed : IsFailure files words before now outcome
 
 done_asked : (files : Files) (words : List Word) (bytes : List ℕ) → IsDoneOutput files words bytes → Ends files words Asked
-done_asked files words bytes h = ⊎_elim (λ k. inl (k.1.graph, k.1.wanted, k.1.asked)) (λ k. inr (k.graph, k.asked)) h
+done_asked files words bytes h = ⊎_elim (λ k. inl (k.1.graph, k.1.wanted, k.1.asked)) (λ k. inr (⊎_elim (λ k. inl (k.graph, k.asked)) (λ k. inr (k.table, k.to, k.asked)) k)) h
 
 refused_asked : (files : Files) (words : List Word) (bytes : List ℕ) → IsRefusedOutput files words bytes → Ends files words Asked
 refused_asked files words bytes h = inl (h.1.graph, h.1.wanted, h.1.asked)
@@ -53,7 +53,7 @@ cause_of : (files : Files) (words : List Word) (before now : ℕ) (refusal : Ref
 cause_of files words before now refusal h other = ⊎_elim (λ c. c) (λ k. absurd (other k.0)) h
 
 missing_of : (files : Files) (words : List Word) (before now : ℕ) (role : _) → IsUnreadable files words before now role → Rose before now ⊎ IsMissing files words
-missing_of files words before now role h = ⊎_elim (λ rose. inl rose) (λ lacks. inr (h.command, h.is, ((role, h.name), h.reached, lacks))) h.cause
+missing_of files words before now role h = ⊎_elim (λ rose. inl rose) (λ lacks. inr (h.command, h.is, (h.document, h.reached, lacks))) h.cause
 
 -- the way to end that an outcome shows, or want of memory, or words that are no command's, or a count that rose
 data Shown (files : Files) (words : List Word) (before now : ℕ) (status : Status) : Type 0 where
@@ -171,19 +171,38 @@ is_example files words before now (Err refusals.LinkFault) h e = cc
 is_example files words before now (Err (refusals.Example example)) h e = (cause_of files words before now (refusals.Example example) h (λ e. cc)).1
 is_example files words before now (Err (refusals.Remote remote)) h e = cc
 
+-- a document that is not of its form
+pub is_document : (files : Files) (words : List Word) (before now : ℕ) (outcome : Outcome) → IsFailure files words before now outcome → outcome_status outcome ≡ statuses.Document → IsFaulty files words
+is_document files words before now (Ok endings.Done) h e = cc
+is_document files words before now (Ok endings.Refused) h e = cc
+is_document files words before now (Err refusals.Words) h e = cc
+is_document files words before now (Err (refusals.Document role fault)) h e = (role, fault, cause_of files words before now (refusals.Document role fault) h (λ e. cc))
+is_document files words before now (Err (refusals.Limit role count)) h e = cc
+is_document files words before now (Err refusals.Answers) h e = cc
+is_document files words before now (Err (refusals.ReadFault role)) h e = cc
+is_document files words before now (Err refusals.WriteFault) h e = cc
+is_document files words before now (Err refusals.Memory) h e = cc
+is_document files words before now (Err refusals.LinkFault) h e = cc
+is_document files words before now (Err (refusals.Example example)) h e = cc
+is_document files words before now (Err (refusals.Remote remote)) h e = cc
+
 -- what `convert` writes
-converted_of : (files : Files) (words : List Word) (bytes : List ℕ) → IsSomeConvert words → IsDoneOutput files words bytes → IsConverted files words bytes
+no_learn : (files : Files) (words : List Word) (graph wanted : Word) (tables : _) → IsSomeConvert words → IsLearn words graph wanted tables → ⊥
+no_learn files words graph wanted tables (inl h) learn = not_both words graph wanted h.0 tables learn h.1
+no_learn files words graph wanted tables (inr h) learn = not_table words graph wanted h.0 tables h.1 h.2 learn h.3
+
+converted_of : (files : Files) (words : List Word) (bytes : List ℕ) → IsSomeConvert words → IsDoneOutput files words bytes → IsConverted files words bytes ⊎ IsTableConverted files words bytes
 converted_of files words bytes convert h =
-    ⊎_elim (λ k. absurd (not_both words k.1.asked.given.graph_name k.1.asked.given.wanted_name convert.0 k.1.asked.given.learn convert.1)) (λ k. k) h
+    ⊎_elim (λ k. absurd (no_learn files words k.1.asked.given.graph_name k.1.asked.given.wanted_name k.1.asked.given.tables convert k.1.asked.given.learn)) (λ k. k) h
 
 pub conversion : (files : Files) (words : List Word) (before now out_before out_now : ℕ) (sent sent_now : Option (List ℕ)) (outcome : Outcome)
     → Run files words before now out_before out_now sent sent_now outcome → (status : Status) → status ≡ outcome_status outcome → IsSomeConvert words → IsConversion files words sent sent_now status
 conversion files words before now ob on s t outcome run status is convert = record {
   done = λ e. let w = run.done (is_done outcome (sym is ∙ e)) in (w.0, converted_of files words w.0 convert w.1, w.2);
   refused = λ e. let w = run.refused (is_refused outcome (sym is ∙ e)) in
-      not_both words w.1.1.asked.given.graph_name w.1.1.asked.given.wanted_name convert.0 w.1.1.asked.given.learn convert.1;
+      no_learn files words w.1.1.asked.given.graph_name w.1.1.asked.given.wanted_name w.1.1.asked.given.tables convert w.1.1.asked.given.learn;
   example = λ e. let h = is_example files words before now outcome run.failed (sym is ∙ e) in
-      not_both words h.2.graph_name h.2.wanted_name convert.0 h.2.learn convert.1;
+      no_learn files words h.2.graph_name h.2.wanted_name h.2.tables convert h.2.learn;
 }
 
 -- what goes to `err`
@@ -214,7 +233,10 @@ query_of files words graph wanted bytes told asked h =
     (λ k.
     let same = same_given files words k.1.graph graph k.1.wanted wanted told k.1.asked.given asked.given in
     (k.0, subst (λ (t : TableValue). IsQueryText graph t k.0) same.1 (subst (λ (g : List Statement). IsQueryText g k.1.wanted k.0) same.0 k.1.query), k.2))
-    (λ k. absurd (not_both words asked.given.graph_name asked.given.wanted_name k.asked.graph_name asked.given.learn k.asked.convert))
+    (λ k. ⊎_elim
+    (λ k. absurd (not_both words asked.given.graph_name asked.given.wanted_name k.asked.graph_name asked.given.tables asked.given.learn k.asked.convert))
+    (λ k. absurd (not_table words asked.given.graph_name asked.given.wanted_name k.asked.table_name asked.given.tables k.asked.from k.to asked.given.learn k.asked.convert))
+    k)
     h
 
 refusal_of : (files : Files) (words : List Word) (graph : List Statement) (wanted : TableValue) (bytes : List ℕ) → IsTold files → IsAsked files words graph wanted

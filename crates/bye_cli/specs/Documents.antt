@@ -1,10 +1,18 @@
 -- The documents of a command, and what is to be said of their bytes.
-use Rattle.std.specs.Prelude.{◌≡◌, ℕ, ◌<◌, ◌≤◌, List, [], ◌∷◌, Option, Some, None, ⊤, length, ◌⊎◌, IsSomeAnd}
+use Rattle.std.specs.Prelude.{◌≡◌, ℕ, ◌<◌, ◌≤◌, List, [], ◌∷◌, Option, Some, None, Result, Ok, Err, ⊤, length, ◌⊎◌, IsSomeAnd}
 use Rattle.bye_terms.specs.Terms.{Statement}
-use Rattle.bye_ntriples.specs.Answers.{IsGraph, IsSyntax, IsNotUtf8, Passes as PassesTriples}
-use Rattle.bye_pattern.specs.Tables.{TableValue, IsFirstTable}
+use Rattle.bye_ntriples.specs.Answers.{NtAnswer}
+use Rattle.bye_ntriples.specs.declared.fault.NtErr.{NtErr}
+use Rattle.bye_ntriples.specs.declared.fault.NtErr.TheVariants as graph_errors
+use Rattle.bye_table.specs.Tables.{TableValue}
+use Rattle.bye_pattern.specs.Tables.{IsFirstTable}
+use Rattle.bye_json.specs.Answers.{JsonAnswer}
+use Rattle.bye_json.specs.declared.json_err.JsonErr.{JsonErr}
+use Rattle.bye_json.specs.declared.json_err.JsonErr.TheVariants as json_errors
 use Rattle.bye_words.specs.Pairs.{Word}
-use Rattle.bye_cli.specs.Words.{Command, Learn, Convert}
+use Rattle.bye_cli.specs.Words.{Command, Learn, Convert, ConvertTable}
+use Rattle.bye_cli.specs.declared.table_form.TableForm.{TableForm}
+use Rattle.bye_cli.specs.declared.table_form.TableForm.TheVariants.{Tsv, Json}
 use Rattle.bye_words.specs.declared.role.Role.{Role}
 use Rattle.bye_words.specs.declared.role.Role.TheVariants as roles
 use Rattle.bye_words.specs.declared.fault.Fault.{Fault}
@@ -31,62 +39,92 @@ abbrev pub IsTold : Files → Type 0
 IsTold None = ⊥
 IsTold (Some files) = ⊤
 
+-- what a document is read as: a graph, or a table in a role and a form
+pub data Kind : Type 0 where
+  OfGraph : Kind
+  OfTable : Role → TableForm → Kind
+
+-- its role
+abbrev pub role_of : Kind → Role
+role_of OfGraph = roles.Graph
+role_of (OfTable role form) = role
+
 -- a document: what it is read as, and its name
 abbrev pub Document : Type 0
-Document = Role × Word
+Document = Kind × Word
 
 -- the documents of a command, in the order in which they are read
 abbrev pub due : Command → List Document
-due (Learn graph wanted) = (roles.Graph, graph) ∷ (roles.Wanted, wanted) ∷ []
-due (Convert graph) = (roles.Graph, graph) ∷ []
+due (Learn graph wanted tables) = (OfGraph, graph) ∷ (OfTable roles.Wanted tables, wanted) ∷ []
+due (Convert graph) = (OfGraph, graph) ∷ []
+due (ConvertTable table from to) = (OfTable roles.Table from, table) ∷ []
 
 -- the greatest number of bytes of a document
-abbrev pub limit_of : Role → ℕ
-limit_of roles.Graph = 268435456
-limit_of roles.Wanted = 67108864
-limit_of roles.Unwanted = 67108864
-limit_of roles.Query = 16777216
-limit_of roles.Certificate = 67108864
-limit_of roles.Table = 67108864
+abbrev pub limit_of : Kind → ℕ
+limit_of OfGraph = 268435456
+limit_of (OfTable role form) = 67108864
+
+-- the greatest number of variables of a table: of one that is converted, and of examples
+abbrev pub most_vars : Role → ℕ
+most_vars roles.Table = 1024
+most_vars _ = 32
+
+-- the greatest number of its rows
+abbrev pub most_rows : Role → ℕ
+most_rows roles.Table = 1048576
+most_rows _ = 10000
 
 -- what a document says
 pub data Value : Type 0 where
   Triples : List Statement → Value
   Rows : TableValue → Value
 
--- the bytes are a document of the role's form, and say this
-abbrev pub Says : Role → List ℕ → Value → Type 0
-Says roles.Graph bytes (Triples triples) = IsGraph bytes triples
-Says roles.Wanted bytes (Rows table) = IsFirstTable bytes table
-Says role bytes value = ⊥
-
--- the bytes are not of the role's form: a graph stops being one at a place before too many triples, and a table is none
-abbrev pub Fails : Role → List ℕ → Fault → Type 0
-Fails roles.Graph bytes fault =
-    ((place : ℕ) × (fault ≡ faults.Syntax place) × IsSyntax bytes place) ⊎ ((place : ℕ) × (fault ≡ faults.NotUtf8 place) × IsNotUtf8 bytes place)
-Fails roles.Wanted bytes fault = (fault ≡ faults.NotFirstForm) × ((table : TableValue) → IsFirstTable bytes table → ⊥)
-Fails role bytes fault = ⊥
-
--- the bytes have too many of what the role counts in them: a graph that has too many triples before any fault
-abbrev pub Passes : Role → List ℕ → Count → Type 0
-Passes roles.Graph bytes count = (count ≡ counts.Triples) × PassesTriples bytes
-Passes role bytes count = ⊥
-
--- the bytes are more than the role's limit; or they are not, and have too many of what the role counts in them
-abbrev pub HasTooMany : Role → List ℕ → Count → Type 0
-HasTooMany role bytes count = ((count ≡ counts.Bytes) × (limit_of role < length bytes)) ⊎ ((length bytes ≤ limit_of role) × Passes role bytes count)
-
--- the verdict on a document's bytes: they pass a limit, they are not of the form, or they say a value
+-- the verdict on a document's bytes: they have too many of something, they are not of the form, or they say a value
 pub data Verdict : Type 0 where
   TooMany : Count → Verdict
   Faulty : Fault → Verdict
   Good : Value → Verdict
 
--- the verdict holds of the bytes of a document that is read so
-abbrev pub IsVerdict : Role → List ℕ → Verdict → Type 0
-IsVerdict role bytes (TooMany count) = HasTooMany role bytes count
-IsVerdict role bytes (Faulty fault) = (length bytes ≤ limit_of role) × Fails role bytes fault
-IsVerdict role bytes (Good value) = (length bytes ≤ limit_of role) × Says role bytes value
+-- the verdict on what is read as a graph; there is none where memory was refused
+abbrev pub graph_verdict : Result (List Statement) NtErr → Option Verdict
+graph_verdict (Ok triples) = Some (Good (Triples triples))
+graph_verdict (Err (graph_errors.Syntax place)) = Some (Faulty (faults.Syntax place))
+graph_verdict (Err (graph_errors.NotUtf8 place)) = Some (Faulty (faults.NotUtf8 place))
+graph_verdict (Err graph_errors.TooMany) = Some (TooMany counts.Triples)
+graph_verdict (Err graph_errors.Memory) = None
+
+-- the verdict on what is read as a table in JSON
+abbrev pub json_verdict : Result TableValue JsonErr → Option Verdict
+json_verdict (Ok table) = Some (Good (Rows table))
+json_verdict (Err json_errors.NotJson) = Some (Faulty faults.NotJson)
+json_verdict (Err json_errors.NotBindings) = Some (Faulty faults.NotBindings)
+json_verdict (Err (json_errors.BadVariable number)) = Some (Faulty (faults.BadVariable number))
+json_verdict (Err (json_errors.Unlisted row)) = Some (Faulty (faults.Unlisted row))
+json_verdict (Err (json_errors.BadTerm row number)) = Some (Faulty (faults.BadTerm row number))
+json_verdict (Err json_errors.TooManyVars) = Some (TooMany counts.Variables)
+json_verdict (Err json_errors.TooManyRows) = Some (TooMany counts.Rows)
+json_verdict (Err json_errors.Memory) = None
+
+-- the bytes are a table of the first form, or none
+abbrev pub IsFirstRead : List ℕ → Verdict → Type 0
+IsFirstRead bytes (Good (Rows table)) = IsFirstTable bytes table
+IsFirstRead bytes (Good (Triples triples)) = ⊥
+IsFirstRead bytes (Faulty fault) = (fault ≡ faults.NotFirstForm) × ((table : TableValue) → IsFirstTable bytes table → ⊥)
+IsFirstRead bytes (TooMany count) = ⊥
+
+-- some answer of a reader has this verdict
+abbrev pub Reads : {A : Type 0} → (A → Type 0) → (A → Option Verdict) → Verdict → Type 0
+Reads {A} IsAnswer verdict_of verdict = (answer : A) × IsAnswer answer × (verdict_of answer ≡ Some verdict)
+
+-- the bytes are read so in the form of the document
+abbrev pub IsRead : Kind → List ℕ → Verdict → Type 0
+IsRead OfGraph bytes verdict = Reads (NtAnswer bytes) graph_verdict verdict
+IsRead (OfTable role Tsv) bytes verdict = IsFirstRead bytes verdict
+IsRead (OfTable role Json) bytes verdict = Reads (JsonAnswer bytes (most_vars role) (most_rows role)) json_verdict verdict
+
+-- the bytes are more than the limit; or they are not, and are read so
+abbrev pub IsVerdict : Kind → List ℕ → Verdict → Type 0
+IsVerdict kind bytes verdict = ((limit_of kind < length bytes) × (verdict ≡ TooMany counts.Bytes)) ⊎ ((length bytes ≤ limit_of kind) × IsRead kind bytes verdict)
 
 -- the verdict on the bytes that the document has
 pub record HasVerdict (files : Files) (d : Document) (verdict : Verdict) : Type 0 where
@@ -99,8 +137,9 @@ abbrev pub Reaches : Files → List Document → Document → Type 0
 Reaches files [] e = ⊥
 Reaches files (d ∷ ds) e = (d ≡ e) ⊎ ((value : Value) × HasVerdict files d (Good value) × Reaches files ds e)
 
--- some document of these that is read as this is reached, and has this verdict
+-- some document of these in the role is reached, and has this verdict
 pub record Stops (files : Files) (ds : List Document) (role : Role) (verdict : Verdict) : Type 0 where
-  pub name : Word
-  pub reached : Reaches files ds (role, name)
-  pub has : HasVerdict files (role, name) verdict
+  pub document : Document
+  pub in_role : role_of document.0 ≡ role
+  pub reached : Reaches files ds document
+  pub has : HasVerdict files document verdict

@@ -4,7 +4,7 @@ use Rattle.bye_terms.specs.Terms.{Statement}
 use Rattle.bye_pattern.specs.Classes.{InAndPlain}
 use Rattle.bye_pattern.specs.Fitting.{NoFit}
 use Rattle.bye_pattern.specs.Learning.{wanted_of}
-use Rattle.bye_pattern.specs.Tables.{TableValue}
+use Rattle.bye_table.specs.Tables.{TableValue}
 use Rattle.bye_words.specs.Pairs.{Word}
 use Rattle.bye_cli.specs.Documents.{Files, IsTold}
 use Rattle.bye_cli.specs.Problem.{IsAsked, IsQueryText, IsRefusalLine}

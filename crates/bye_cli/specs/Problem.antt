@@ -1,18 +1,19 @@
 -- What `learn` is asked and what it writes, and what a command writes.
 use Rattle.std.specs.Prelude.{◌≡◌, ℕ, ◌<◌, List, ◌++◌, ◌⊎◌, length, codes}
-use Rattle.std.specs.List.{AllByRecursion}
-use Rattle.bye_terms.specs.Terms.{Statement, IsTriple}
-use Rattle.bye_table.specs.Mappings.{Name}
+use Rattle.std.specs.Fmt.{decimal}
+use Rattle.bye_terms.specs.Terms.{Statement}
 use Rattle.bye_pattern.specs.Trees.{Select}
 use Rattle.bye_pattern.specs.Printed.{query_text}
-use Rattle.bye_pattern.specs.Tables.{TableValue}
-use Rattle.bye_pattern.specs.Learning.{wanted_of, AreFull, IsLearnedQuery, IsJustRefused}
+use Rattle.bye_table.specs.Tables.{TableValue}
+use Rattle.bye_pattern.specs.Certificates.{Claim, Domains, NoRoot, Uncovered}
+use Rattle.bye_pattern.specs.Learning.{IsLearnedQuery, IsJustRefused}
 use Rattle.bye_words.specs.Pairs.{Word}
 use Rattle.bye_cli.specs.Words.{IsLearn}
-use Rattle.bye_cli.specs.Documents.{Files, Triples, Rows, Good, HasVerdict}
-use Rattle.bye_cli.specs.Converting.{IsConverted}
+use Rattle.bye_cli.specs.Documents.{Files, OfGraph, OfTable, Triples, Rows, Good, HasVerdict}
+use Rattle.bye_cli.specs.Converting.{IsConverted, IsTableConverted}
 use Rattle.bye_cli.specs.Statuses.{InUtf8}
-use Rattle.bye_words.specs.declared.role.Role.TheVariants.{Graph, Wanted}
+use Rattle.bye_words.specs.declared.role.Role.TheVariants.{Wanted}
+use Rattle.bye_cli.specs.declared.table_form.TableForm.{TableForm}
 use Rattle.bye_cli.specs.declared.ending.Ending.TheVariants as endings
 use Rattle.bye_cli.specs.declared.answer.Answer.{Answer}
 use Rattle.bye_cli.specs.declared.ending.Ending.{Ending}
@@ -21,9 +22,10 @@ use Rattle.bye_cli.specs.declared.ending.Ending.{Ending}
 pub record IsGiven (files : Files) (words : List Word) (graph : List Statement) (wanted : TableValue) : Type 0 where
   pub graph_name : Word
   pub wanted_name : Word
-  pub learn : IsLearn words graph_name wanted_name
-  pub graph_held : HasVerdict files (Graph, graph_name) (Good (Triples graph))
-  pub wanted_held : HasVerdict files (Wanted, wanted_name) (Good (Rows wanted))
+  pub tables : TableForm
+  pub learn : IsLearn words graph_name wanted_name tables
+  pub graph_held : HasVerdict files (OfGraph, graph_name) (Good (Triples graph))
+  pub wanted_held : HasVerdict files (OfTable Wanted tables, wanted_name) (Good (Rows wanted))
 
 -- and the table has a row
 pub record IsAsked (files : Files) (words : List Word) (graph : List Statement) (wanted : TableValue) : Type 0 where
@@ -36,15 +38,18 @@ pub record IsQueryText (graph : List Statement) (wanted : TableValue) (text : Li
   pub learned : IsLearnedQuery graph wanted query
   pub written : text ≡ query_text query
 
--- the line that names the variable of a refusal
-abbrev pub uncovered_line : Name → List ℕ
-uncovered_line x = codes "uncovered ?" ++ x ++ codes "\n"
+-- the line of a claim of the class of one conjunction
+abbrev pub IsClaimLine : Claim → List ℕ → Type 0
+IsClaimLine (Domains i j x) text = text ≡ codes "domains " ++ decimal i ++ codes " " ++ decimal j ++ codes " ?" ++ x ++ codes "\n"
+IsClaimLine NoRoot text = text ≡ codes "noroot\n"
+IsClaimLine (Uncovered x) text = text ≡ codes "uncovered ?" ++ x ++ codes "\n"
+IsClaimLine _ text = ⊥
 
--- the line of a variable that no query of the class has
+-- the line of the first claim, where no query of the class fits
 pub record IsRefusalLine (graph : List Statement) (wanted : TableValue) (text : List ℕ) : Type 0 where
-  pub variable : Name
-  pub refused : IsJustRefused graph wanted variable
-  pub written : text ≡ uncovered_line variable
+  pub claim : Claim
+  pub refused : IsJustRefused graph wanted claim
+  pub written : IsClaimLine claim text
 
 -- what is written where the words and the files ask for a query
 pub record IsLearnedText (files : Files) (words : List Word) (text : List ℕ) : Type 0 where
@@ -62,7 +67,7 @@ pub record IsRefusalText (files : Files) (words : List Word) (text : List ℕ) :
 
 -- what is written on Done: the text of the learned query, or the converted document
 abbrev pub IsDoneOutput : Files → List Word → List ℕ → Type 0
-IsDoneOutput files words bytes = InUtf8 (IsLearnedText files words) bytes ⊎ IsConverted files words bytes
+IsDoneOutput files words bytes = InUtf8 (IsLearnedText files words) bytes ⊎ (IsConverted files words bytes ⊎ IsTableConverted files words bytes)
 
 -- what is written on Refused
 abbrev pub IsRefusedOutput : Files → List Word → List ℕ → Type 0
@@ -76,11 +81,6 @@ IsOutput files words bytes = IsDoneOutput files words bytes ⊎ IsRefusedOutput 
 abbrev pub IsWritten : List Statement → TableValue → Ending → List ℕ → Type 0
 IsWritten graph wanted endings.Done bytes = InUtf8 (IsQueryText graph wanted) bytes
 IsWritten graph wanted endings.Refused bytes = InUtf8 (IsRefusalLine graph wanted) bytes
-
--- its triples have subjects and predicates, and its rows bind exactly the variables of the header
-pub record IsRead (graph : List Statement) (wanted : TableValue) : Type 0 where
-  pub triples : AllByRecursion IsTriple graph
-  pub full : AreFull wanted.header (wanted_of wanted)
 
 -- what is to be written, where the command ends so
 abbrev pub IsWrittenOf : Files → List Word → Ending → List ℕ → Type 0

@@ -1,20 +1,41 @@
 -- The commands that the words of the command line give.
-use Rattle.std.specs.Prelude.{List, codes}
+use Rattle.std.specs.Prelude.{◌≡◌, List, codes, ◌⊎◌}
 use Rattle.bye_terms.specs.Members.{In}
 use Rattle.bye_words.specs.Pairs.{Word, Setting}
-use Rattle.bye_words.specs.Forms.{learn, convert, IsLine}
+use Rattle.bye_words.specs.Forms.{learn, convert, convert_table, IsLine, names_in}
+use Rattle.bye_cli.specs.declared.table_form.TableForm.{TableForm}
+use Rattle.bye_cli.specs.declared.table_form.TableForm.TheVariants as read
+use Rattle.bye_cli.specs.declared.table_form.WrittenForm.{WrittenForm}
+use Rattle.bye_cli.specs.declared.table_form.WrittenForm.TheVariants as written
 
--- a command, with the names of its documents
+-- a command, with the names of its documents and the forms of its tables
 pub data Command : Type 0 where
-  Learn : Word → Word → Command
+  Learn : Word → Word → TableForm → Command
   Convert : Word → Command
+  ConvertTable : Word → TableForm → WrittenForm → Command
 
--- `learn` with `--graph FILE` and `--wanted FILE`, in any order
-pub record IsLearn (words : List Word) (graph wanted : Word) : Type 0 where
+-- the word that names a form in which tables are read
+abbrev pub read_word : TableForm → Word
+read_word read.Tsv = codes "tsv"
+read_word read.Json = codes "json"
+
+-- the word that names a form in which tables are written
+abbrev pub written_word : WrittenForm → Word
+written_word written.Tsv = codes "tsv"
+written_word written.Json = codes "json"
+written_word written.Csv = codes "csv"
+
+-- the form of the tables of examples: TSV where none is named
+abbrev pub HasTables : List Setting → TableForm → Type 0
+HasTables settings form = In settings (codes "--tables", read_word form) ⊎ ((In (names_in settings) (codes "--tables") → ⊥) × (form ≡ read.Tsv))
+
+-- `learn` with `--graph FILE` and `--wanted FILE`, and maybe `--tables FORM`, in any order
+pub record IsLearn (words : List Word) (graph wanted : Word) (tables : TableForm) : Type 0 where
   pub settings : List Setting
   pub line : IsLine words learn settings
   pub graph_named : In settings (codes "--graph", graph)
   pub wanted_named : In settings (codes "--wanted", wanted)
+  pub tables_named : HasTables settings tables
 
 -- `convert` with `--graph FILE`
 pub record IsConvert (words : List Word) (graph : Word) : Type 0 where
@@ -22,10 +43,19 @@ pub record IsConvert (words : List Word) (graph : Word) : Type 0 where
   pub line : IsLine words convert settings
   pub graph_named : In settings (codes "--graph", graph)
 
+-- `convert` with `--table FILE`, `--from FORM` and `--to FORM`, in any order
+pub record IsConvertTable (words : List Word) (table : Word) (from : TableForm) (to : WrittenForm) : Type 0 where
+  pub settings : List Setting
+  pub line : IsLine words convert_table settings
+  pub table_named : In settings (codes "--table", table)
+  pub from_named : In settings (codes "--from", read_word from)
+  pub to_named : In settings (codes "--to", written_word to)
+
 -- the words are those of the command
 abbrev pub IsCommand : List Word → Command → Type 0
-IsCommand words (Learn graph wanted) = IsLearn words graph wanted
+IsCommand words (Learn graph wanted tables) = IsLearn words graph wanted tables
 IsCommand words (Convert graph) = IsConvert words graph
+IsCommand words (ConvertTable table from to) = IsConvertTable words table from to
 
 -- no command has these words
 abbrev pub IsNoCommand : List Word → Type 0
@@ -37,4 +67,4 @@ IsSomeCommand words = (command : Command) × IsCommand words command
 
 -- the words are those of some `convert`
 abbrev pub IsSomeConvert : List Word → Type 0
-IsSomeConvert words = (graph : Word) × IsConvert words graph
+IsSomeConvert words = ((graph : Word) × IsConvert words graph) ⊎ ((table : Word) × (from : TableForm) × (to : WrittenForm) × IsConvertTable words table from to)

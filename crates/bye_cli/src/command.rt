@@ -1,16 +1,72 @@
 //! The command that the words give.
 
-ghost use Rattle.std.specs.Prelude.{IfSome, IfNone};
-ghost use Rattle.bye_cli.specs.Words.{IsCommand, IsNoCommand};
+ghost use Rattle.std.specs.Prelude.{List, IfSome, IfNone};
+ghost use Rattle.bye_words.specs.Pairs.{Word};
+ghost use Rattle.bye_words.specs.Forms as forms;
+ghost use Rattle.bye_cli.specs.Words.{HasTables, IsCommand, IsNoCommand};
 ghost use Rattle.bye_cli.specs.Commands.{command_of};
 
+use crate::table_form::{TableForm, WrittenForm, read_form, written_form};
 use bye_terms::Text;
-use bye_words::{FormName, forms, read_words};
+use bye_words::{FormName, Settings, forms, read_words};
 
-/// A command, with the names of its documents.
+/// A command, with the names of its documents and the forms of its tables.
 pub enum Command<'a> {
-    Learn { graph: &'a Text, wanted: &'a Text },
-    Convert { graph: &'a Text },
+    Learn {
+        graph: &'a Text,
+        wanted: &'a Text,
+        tables: TableForm,
+    },
+    Convert {
+        graph: &'a Text,
+    },
+    ConvertTable {
+        table: &'a Text,
+        from: TableForm,
+        to: WrittenForm,
+    },
+}
+
+/// The form of the tables of examples.
+fn tables_form(settings: &Settings<'_>) -> TableForm
+    requires { forms.AreOf forms.learn settings.now }
+    ensures { HasTables settings.now result }
+{
+    match settings.value("--tables") {
+        Some(word) => read_form(word),
+        None => TableForm::Tsv,
+    }
+}
+
+fn learn_command<'a>(settings: &Settings<'a>) -> Command<'a>
+    requires { forms.AreOf forms.learn settings.now }
+    ensures { (words : List Word) → forms.IsLine words forms.learn settings.now → IsCommand words (command_of result) }
+{
+    Command::Learn {
+        graph: settings.must("--graph"),
+        wanted: settings.must("--wanted"),
+        tables: tables_form(settings),
+    }
+}
+
+fn convert_command<'a>(settings: &Settings<'a>) -> Command<'a>
+    requires { forms.AreOf forms.convert settings.now }
+    ensures { (words : List Word) → forms.IsLine words forms.convert settings.now → IsCommand words (command_of result) }
+{
+    Command::Convert {
+        graph: settings.must("--graph"),
+    }
+}
+
+fn convert_table_command<'a>(settings: &Settings<'a>) -> Command<'a>
+    requires { forms.AreOf forms.convert_table settings.now }
+    ensures { (words : List Word) → forms.IsLine words forms.convert_table settings.now → IsCommand words (command_of result) }
+{
+    Command::ConvertTable {
+        table: settings.must("--table"),
+        from: read_form(settings.must("--from")),
+        to: written_form(settings.must("--to")),
+    }
 }
 
 /// The command that the words give.
@@ -19,14 +75,9 @@ pub fn read_command(words: &[Text]) -> Option<Command<'_>>
     ensures none { IfNone result (IsNoCommand words.now) }
 {
     let reading = read_words(forms(), words)?;
-    let settings = reading.settings;
-    match reading.form {
-        FormName::Learn => Some(Command::Learn {
-            graph: settings.must("--graph"),
-            wanted: settings.must("--wanted"),
-        }),
-        FormName::Convert => Some(Command::Convert {
-            graph: settings.must("--graph"),
-        }),
-    }
+    Some(match reading.form {
+        FormName::Learn => learn_command(&reading.settings),
+        FormName::Convert => convert_command(&reading.settings),
+        FormName::ConvertTable => convert_table_command(&reading.settings),
+    })
 }

@@ -1,7 +1,9 @@
-ghost use Rattle.std.specs.Prelude.{◌≡◌};
+//! Graph documents.
+
+ghost use Rattle.std.specs.Prelude.{◌≡◌, Err};
 ghost use Rattle.bye_words.specs.declared.role.Role.TheVariants.{Graph};
-ghost use Rattle.bye_cli.specs.Documents.{Triples};
-ghost use Rattle.bye_cli.specs.Refusals.{graph_refusal};
+ghost use Rattle.bye_cli.specs.Documents.{OfGraph, Triples, graph_verdict};
+ghost use Rattle.bye_cli.specs.Refusals.{verdict_refusal};
 
 use crate::reader::Reader;
 use bye_ntriples::{NtErr, read_triples};
@@ -11,7 +13,7 @@ use std::alloc::Global;
 
 /// The refusal of a graph that is not of its form, or has too many triples.
 fn no_graph(err: NtErr) -> Refusal
-    ensures { result ≡ graph_refusal err }
+    ensures { result ≡ verdict_refusal Graph (graph_verdict (Err err)) }
 {
     match err {
         NtErr::Syntax(place) => Refusal::Document(Role::Graph, Fault::Syntax(place)),
@@ -27,12 +29,16 @@ pub struct GraphReader;
 impl Reader for GraphReader {
     type Read = Vec<Triple>;
 
-    ghost role = { λ _. Graph };
+    ghost kind = { λ _. OfGraph };
 
     ghost value = { λ triples. Triples triples.items };
 
     fn role(&self) -> Role {
         Role::Graph
+    }
+
+    fn limit(&self) -> u64 {
+        268_435_456
     }
 
     fn read(&self, alloc: Global, bytes: &[u8]) -> Result<Vec<Triple>, Refusal> {

@@ -1,30 +1,63 @@
 //! The work of `learn`.
 
-ghost use Rattle.std.specs.Prelude.{◌≡◌, ◌<◌, ◌≤◌, List, length, IfOk, IfErr};
+ghost use Rattle.std.specs.Prelude.{◌≡◌, ◌<◌, ◌≤◌, ◌++◌, List, codes, length, IfOk, IfErr, OnOk};
+ghost use Rattle.std.specs.Fmt.{decimal};
+ghost use Rattle.std.specs.List.{AllByRecursion};
 ghost use Rattle.std.specs.Str.{encode_utf8_all};
 ghost use Rattle.bye_words.specs.Pairs.{Word};
 ghost use Rattle.bye_cli.specs.Words.{IsLearn};
-ghost use Rattle.bye_cli.specs.Problem.{IsAnswer, IsRead, IsWritten, uncovered_line};
+ghost use Rattle.bye_terms.specs.Terms.{IsTriple};
+ghost use Rattle.bye_pattern.specs.Learning.{claim_of};
+ghost use Rattle.bye_cli.specs.Problem.{IsAnswer, IsClaimLine, IsWritten};
 ghost use Rattle.bye_cli.specs.Causes.{IsCause};
 
 use crate::answer::Answer;
 use crate::ending::Ending;
 use crate::graph_reader::GraphReader;
 use crate::opening::read_document;
-use crate::wanted_reader::WantedReader;
+use crate::table_form::TableForm;
+use crate::table_reader::TableReader;
 use bye_io::Folder;
-use bye_pattern::{Learned, Table, learn, write_conjunction};
+use bye_pattern::{Claim, Learned, learn, write_conjunction};
+use bye_table::Table;
 use bye_terms::{Memory, Text, Triple, Var};
-use bye_words::{Example, Refusal};
+use bye_words::{Example, Refusal, Role};
+use itoa::Buffer;
 use std::alloc::Global;
 
-fn uncovered(alloc: Global, variable: &Var) -> Result<Text, Memory>
-    ensures { IfOk result (λ text. text ≡ uncovered_line variable.now) }
+fn push_variable(text: &mut Text, variable: &Var) -> Result<(), Memory>
+    ensures { OnOk result (text.new ≡ text.old ++ (codes " ?" ++ variable.now ++ codes "\n")) }
+{
+    text.push_ascii(" ?")?;
+    text.push_text(variable.name())?;
+    text.push_ascii("\n")
+}
+
+fn push_number(text: &mut Text, number: usize) -> Result<(), Memory>
+    ensures { OnOk result (text.new ≡ text.old ++ decimal number) }
+{
+    text.push_ascii(Buffer::new().format(number))
+}
+
+/// The line of a claim.
+fn claim_line(alloc: Global, claim: &Claim) -> Result<Text, Memory>
+    ensures { IfOk result (IsClaimLine (claim_of claim.now)) }
 {
     let mut text = Text::new(alloc);
-    text.push_ascii("uncovered ?")?;
-    text.push_text(variable.name())?;
-    text.push_ascii("\n")?;
+    match claim {
+        Claim::Domains(one, other, variable) => {
+            text.push_ascii("domains ")?;
+            push_number(&mut text, *one)?;
+            text.push_ascii(" ")?;
+            push_number(&mut text, *other)?;
+            push_variable(&mut text, variable)?;
+        }
+        Claim::NoRoot => text.push_ascii("noroot\n")?,
+        Claim::Uncovered(variable) => {
+            text.push_ascii("uncovered")?;
+            push_variable(&mut text, variable)?;
+        }
+    }
     Ok(text)
 }
 
@@ -38,15 +71,15 @@ fn text_answer(alloc: Global, text: &Text, ending: Ending) -> Result<Answer, Mem
 
 fn written(alloc: Global, graph: &[Triple], wanted: &Table) -> Result<Answer, Memory>
     requires { 0 < length wanted.now.rows }
-    ensures { IfOk result (λ answer. IsRead graph.now wanted.now → IsWritten graph.now wanted.now answer.ending answer.bytes.items) }
+    ensures { IfOk result (λ answer. AllByRecursion IsTriple graph.now → IsWritten graph.now wanted.now answer.ending answer.bytes.items) }
 {
     match learn(alloc, graph, wanted)? {
-        Learned::Query(triples) => {
-            let text = write_conjunction(alloc, wanted.vars(), triples.as_slice())?;
+        Learned::Query(query) => {
+            let text = write_conjunction(alloc, query.vars.as_slice(), query.triples.as_slice())?;
             text_answer(alloc, &text, Ending::Done)
         }
-        Learned::Uncovered(variable) => {
-            let text = uncovered(alloc, &variable)?;
+        Learned::Refused(claim) => {
+            let text = claim_line(alloc, &claim)?;
             text_answer(alloc, &text, Ending::Refused)
         }
     }
@@ -58,15 +91,20 @@ pub fn learned<F: Folder>(
     folder: &mut F,
     graph_name: &Text,
     wanted_name: &Text,
+    tables: TableForm,
 ) -> Result<Answer, Refusal>
-    ensures answer { IfOk result (λ answer. (words : List Word) → IsLearn words graph_name.now wanted_name.now → IsAnswer (F.files folder.old) words answer) }
-    ensures cause { IfErr result (λ refusal. (words : List Word) → IsLearn words graph_name.now wanted_name.now
+    ensures answer { IfOk result (λ answer. (words : List Word) → IsLearn words graph_name.now wanted_name.now tables → IsAnswer (F.files folder.old) words answer) }
+    ensures cause { IfErr result (λ refusal. (words : List Word) → IsLearn words graph_name.now wanted_name.now tables
         → IsCause (F.files folder.old) words (F.faults folder.old) (F.faults folder.new) refusal) }
     ensures files { F.files folder.new ≡ F.files folder.old }
     ensures later { F.faults folder.old ≤ F.faults folder.new }
 {
     let graph = read_document(alloc, folder, &GraphReader, graph_name)?;
-    let wanted = read_document(alloc, folder, &WantedReader, wanted_name)?;
+    let reader = TableReader {
+        role: Role::Wanted,
+        form: tables,
+    };
+    let wanted = read_document(alloc, folder, &reader, wanted_name)?;
     if wanted.rows().is_empty() {
         return Err(Refusal::Example(Example::NoWanted));
     }

@@ -11,9 +11,10 @@ mod opening;
 mod program;
 mod reader;
 mod report;
+mod table_form;
+mod table_reader;
 #[cfg(test)]
 mod tests;
-mod wanted_reader;
 
 use bye_io::{RealErr, RealFolder, RealOut};
 use bye_terms::{Memory, Text, push_item};

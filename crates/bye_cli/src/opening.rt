@@ -3,7 +3,7 @@
 ghost use Rattle.std.specs.Prelude.{◌≡◌, ◌≤◌, ◌<◌, ◌^◌, length, IfOk, IfErr, IsErrOf, ◌⊎◌};
 ghost use Rattle.bye_io.specs.Counts.{Rose};
 ghost use Rattle.bye_io.specs.Files.{Lacks};
-ghost use Rattle.bye_cli.specs.Documents.{Holds, HoldsLonger, HasVerdict, Good, limit_of};
+ghost use Rattle.bye_cli.specs.Documents.{Holds, HoldsLonger, HasVerdict, Good};
 ghost use Rattle.bye_cli.specs.Causes.{IsUnread};
 ghost use Rattle.bye_cli.specs.Refusals.{refusal_of};
 
@@ -12,17 +12,6 @@ use bye_io::{Folder, ReadErr, read_all};
 use bye_terms::Text;
 use bye_words::{Count, Refusal, Role};
 use std::alloc::Global;
-
-/// The greatest number of bytes of a document.
-fn byte_limit(role: Role) -> u64
-    ensures { result ≡ limit_of role }
-{
-    match role {
-        Role::Graph => 268_435_456,
-        Role::Query => 16_777_216,
-        Role::Wanted | Role::Unwanted | Role::Certificate | Role::Table => 67_108_864,
-    }
-}
 
 /// The bytes of a file, where they are at most so many.
 fn file_bytes<F: Folder>(
@@ -63,15 +52,14 @@ pub fn read_document<F: Folder, R: Reader>(
     reader: &R,
     name: &Text,
 ) -> Result<R::Read, Refusal>
-    ensures read { IfOk result (λ read. HasVerdict (F.files folder.old) (R.role reader.now, name.now) (Good (R.value read))) }
-    ensures unread { IfErr result (IsUnread (F.files folder.old) (R.role reader.now, name.now) (F.faults folder.old) (F.faults folder.new)) }
+    ensures read { IfOk result (λ read. HasVerdict (F.files folder.old) (R.kind reader.now, name.now) (Good (R.value read))) }
+    ensures unread { IfErr result (IsUnread (F.files folder.old) (R.kind reader.now, name.now) (F.faults folder.old) (F.faults folder.new)) }
     ensures files { F.files folder.new ≡ F.files folder.old }
     ensures later { F.faults folder.old ≤ F.faults folder.new }
 {
-    let role = reader.role();
-    let bytes = match file_bytes(alloc, folder, name, byte_limit(role)) {
+    let bytes = match file_bytes(alloc, folder, name, reader.limit()) {
         Ok(bytes) => bytes,
-        Err(err) => return Err(unread(role, err)),
+        Err(err) => return Err(unread(reader.role(), err)),
     };
     reader.read(alloc, bytes.as_slice())
 }

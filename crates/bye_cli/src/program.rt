@@ -13,7 +13,7 @@ ghost use Rattle.bye_words.specs.declared.refusal.Refusal.TheVariants as refusal
 
 use crate::answer::Answer;
 use crate::command::{Command, read_command};
-use crate::converting::converted;
+use crate::converting::{converted, converted_table};
 use crate::ending::Ending;
 use crate::learning::learned;
 use crate::report::report;
@@ -29,8 +29,17 @@ fn answer<F: Folder>(alloc: Global, words: &[Text], folder: &mut F) -> Result<An
     ensures later { F.faults folder.old ≤ F.faults folder.new }
 {
     match read_command(words) {
-        Some(Command::Learn { graph, wanted }) => learned(alloc, folder, graph, wanted),
+        Some(
+            Command::Learn {
+                graph,
+                wanted,
+                tables,
+            },
+        ) => learned(alloc, folder, graph, wanted, tables),
         Some(Command::Convert { graph }) => converted(alloc, folder, graph),
+        Some(Command::ConvertTable { table, from, to }) => {
+            converted_table(alloc, folder, table, from, to)
+        }
         None => Err(Refusal::Words),
     }
 }

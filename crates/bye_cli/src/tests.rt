@@ -256,9 +256,205 @@ fn documents_and_words_decide(rt: HostRuntime) -> Result<(), Fail> {
         "convert --graph g --wanted w",
         "convert --graph g --graph g",
         "Convert --graph g",
+        "learn --graph g --wanted w --tables xml",
+        "convert --table w --from tsv",
+        "convert --table w --from csv --to tsv",
+        "convert --table w --from tsv --to xml",
+        "convert --graph g --table w --from tsv --to json",
     ] {
         let end = runs(&rt, rt.alloc(), line, GRAPH.as_bytes(), WANTED)?;
         is_end(&rt, line, &end, Status::Words, "", "sparqlbye: words\n");
+    }
+    Ok(())
+}
+
+// The examples of the tests above, and one of them with its number.
+const RESULTS: &str =
+    "{\"head\":{\"link\":[],\"vars\":[\"x\"]},\"results\":{\"distinct\":false,\"bindings\":[{\"x\":{\"type\":\"uri\",\"value\":\"http://e/a\"}},{\"x\":{\"type\":\"uri\",\"value\":\"http://e/b\"}}]}}";
+
+const COUNTED: &str =
+    "SELECT DISTINCT ?x ?n\nWHERE {\n  <http://e/a> <http://e/p> ?n .\n  ?x <http://e/p> \"1\"^^<http://www.w3.org/2001/XMLSchema#integer> .\n  ?x <http://e/p> ?n .\n}\n";
+
+#[test]
+fn examples_have_cells_of_all_kinds(rt: HostRuntime) -> Result<(), Fail> {
+    const JSON: &str = "learn --graph g --tables json --wanted w";
+    for (name, line, graph, wanted, status, sent, told) in [
+        (
+            "results in JSON",
+            JSON,
+            GRAPH,
+            RESULTS,
+            Status::Done,
+            QUERY,
+            "",
+        ),
+        (
+            "the form that is meant where none is named",
+            "learn --tables tsv --graph g --wanted w",
+            GRAPH,
+            WANTED,
+            Status::Done,
+            QUERY,
+            "",
+        ),
+        (
+            "a variable that no row binds",
+            JSON,
+            GRAPH,
+            "{\"head\":{\"vars\":[\"y\",\"x\"]},\"results\":{\"bindings\":[{\"x\":{\"type\":\"uri\",\"value\":\"http://e/a\"}},{\"x\":{\"type\":\"uri\",\"value\":\"http://e/b\"}}]}}",
+            Status::Done,
+            QUERY,
+            "",
+        ),
+        (
+            "a number",
+            JSON,
+            "<http://e/a> <http://e/p> \"1\"^^<http://www.w3.org/2001/XMLSchema#integer> .\n",
+            "{\"head\":{\"vars\":[\"x\",\"n\"]},\"results\":{\"bindings\":[{\"x\":{\"type\":\"uri\",\"value\":\"http://e/a\"},\"n\":{\"type\":\"typed-literal\",\"datatype\":\"http://www.w3.org/2001/XMLSchema#integer\",\"value\":\"1\"}}]}}",
+            Status::Done,
+            COUNTED,
+            "",
+        ),
+        (
+            "a blank node of the graph",
+            JSON,
+            "_:a <http://e/type> <http://e/P> .\n",
+            "{\"head\":{\"vars\":[\"x\"]},\"results\":{\"bindings\":[{\"x\":{\"type\":\"bnode\",\"value\":\"a\"}}]}}",
+            Status::Done,
+            QUERY,
+            "",
+        ),
+        (
+            "rows that bind different variables",
+            JSON,
+            GRAPH,
+            "{\"head\":{\"vars\":[\"x\",\"y\"]},\"results\":{\"bindings\":[{\"x\":{\"type\":\"uri\",\"value\":\"http://e/a\"},\"y\":{\"type\":\"uri\",\"value\":\"http://e/b\"}},{\"x\":{\"type\":\"uri\",\"value\":\"http://e/a\"},\"y\":{\"type\":\"uri\",\"value\":\"http://e/b\"}},{\"x\":{\"type\":\"uri\",\"value\":\"http://e/c\"}}]}}",
+            Status::Refused,
+            "domains 1 3 ?y\n",
+            "",
+        ),
+        (
+            "rows that bind none",
+            JSON,
+            GRAPH,
+            "{\"head\":{\"vars\":[\"x\"]},\"results\":{\"bindings\":[{},{}]}}",
+            Status::Refused,
+            "noroot\n",
+            "",
+        ),
+        (
+            "the second of two variables",
+            JSON,
+            GRAPH,
+            "{\"head\":{\"vars\":[\"z\",\"x\",\"y\"]},\"results\":{\"bindings\":[{\"x\":{\"type\":\"uri\",\"value\":\"http://e/a\"},\"y\":{\"type\":\"uri\",\"value\":\"http://e/z\"}}]}}",
+            Status::Refused,
+            "uncovered ?y\n",
+            "",
+        ),
+        (
+            "too many variables",
+            JSON,
+            GRAPH,
+            "{\"head\":{\"vars\":[\"v0\",\"v1\",\"v2\",\"v3\",\"v4\",\"v5\",\"v6\",\"v7\",\"v8\",\"v9\",\"v10\",\"v11\",\"v12\",\"v13\",\"v14\",\"v15\",\"v16\",\"v17\",\"v18\",\"v19\",\"v20\",\"v21\",\"v22\",\"v23\",\"v24\",\"v25\",\"v26\",\"v27\",\"v28\",\"v29\",\"v30\",\"v31\",\"v32\"]},\"results\":{\"bindings\":[]}}",
+            Status::Limit,
+            "",
+            "sparqlbye: wanted: too many variables\n",
+        ),
+        (
+            "no results",
+            JSON,
+            GRAPH,
+            WANTED,
+            Status::Document,
+            "",
+            "sparqlbye: wanted: not JSON\n",
+        ),
+    ] {
+        let end = runs(&rt, rt.alloc(), line, graph.as_bytes(), wanted)?;
+        is_end(&rt, name, &end, status, sent, told);
+    }
+    Ok(())
+}
+
+#[test]
+fn tables_are_converted(rt: HostRuntime) -> Result<(), Fail> {
+    const TO_JSON: &str = "convert --table w --from tsv --to json";
+    const TO_TSV: &str = "convert --to tsv --from json --table w";
+    const TO_CSV: &str = "convert --table w --from json --to csv";
+    for (line, table, status, sent, told) in [
+        (
+            TO_JSON,
+            WANTED,
+            Status::Done,
+            "{\"head\":{\"vars\":[\"x\"]},\"results\":{\"bindings\":[{\"x\":{\"type\":\"uri\",\"value\":\"http://e/a\"}},{\"x\":{\"type\":\"uri\",\"value\":\"http://e/b\"}}]}}",
+            "",
+        ),
+        (
+            TO_JSON,
+            "?x\n",
+            Status::Done,
+            "{\"head\":{\"vars\":[\"x\"]},\"results\":{\"bindings\":[]}}",
+            "",
+        ),
+        (
+            TO_CSV,
+            "{\"results\":{\"bindings\":[{\"y\":{\"type\":\"uri\",\"value\":\"http://e/c\"},\"x\":{\"type\":\"literal\",\"value\":\"a,b\"}},{\"x\":{\"type\":\"literal\",\"value\":\"q\\\"r\",\"xml:lang\":\"en\"}}]},\"head\":{\"vars\":[\"x\",\"y\"]}}",
+            Status::Done,
+            "x,y\r\n\"a,b\",http://e/c\r\n\"q\"\"r\",\r\n",
+            "",
+        ),
+        (
+            TO_TSV,
+            "{\"head\":{\"vars\":[\"x\"]},\"results\":{\"ordered\":true,\"bindings\":[{\"x\":{\"type\":\"typed-literal\",\"value\":\"1\",\"datatype\":\"http://www.w3.org/2001/XMLSchema#integer\"}},{\"x\":{\"type\":\"literal\",\"value\":\"a\",\"xml:lang\":\"EN\"}},{}]}}",
+            Status::Done,
+            "?x\n\"1\"^^<http://www.w3.org/2001/XMLSchema#integer>\n\"a\"@EN\n\n",
+            "",
+        ),
+        (
+            TO_JSON,
+            "?x\n\n",
+            Status::Document,
+            "",
+            "sparqlbye: table: not of the first form\n",
+        ),
+        (
+            TO_TSV,
+            "{",
+            Status::Document,
+            "",
+            "sparqlbye: table: not JSON\n",
+        ),
+        (
+            TO_TSV,
+            "{\"head\":{},\"boolean\":true}",
+            Status::Document,
+            "",
+            "sparqlbye: table: no bindings\n",
+        ),
+        (
+            TO_TSV,
+            "{\"head\":{\"vars\":[\"x\",\"x\"]},\"results\":{\"bindings\":[]}}",
+            Status::Document,
+            "",
+            "sparqlbye: table: bad variable 2\n",
+        ),
+        (
+            TO_TSV,
+            "{\"head\":{\"vars\":[\"x\"]},\"results\":{\"bindings\":[{\"y\":{\"type\":\"bnode\",\"value\":\"a\"}}]}}",
+            Status::Document,
+            "",
+            "sparqlbye: table: unlisted variable in row 1\n",
+        ),
+        (
+            TO_TSV,
+            "{\"head\":{\"vars\":[\"x\"]},\"results\":{\"bindings\":[{\"x\":{\"type\":\"uri\",\"value\":\"a\"}}]}}",
+            Status::Document,
+            "",
+            "sparqlbye: table: bad term in row 1, variable 1\n",
+        ),
+    ] {
+        let end = runs(&rt, rt.alloc(), line, GRAPH.as_bytes(), table)?;
+        is_end(&rt, table, &end, status, sent, told);
     }
     Ok(())
 }

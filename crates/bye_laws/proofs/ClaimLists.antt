@@ -17,7 +17,7 @@ use Rattle.bye_pattern.specs.Patterns.{Meets, Pattern, all_vars}
 use Rattle.bye_pattern.specs.Starting.{IsInForm, IsStartNode}
 use Rattle.bye_pattern.specs.Trees.{leaf, node}
 use Rattle.bye_pattern.proofs.OneGroup.{all_vars_in, in_all_vars}
-use Rattle.bye_laws.specs.Claiming.{listing, with_value}
+use Rattle.bye_pattern.specs.FirstClaims.{listing, with_value}
 use Rattle.bye_laws.specs.Completeness.{AreExamples}
 use Rattle.bye_laws.specs.Ordering.{IsSorted}
 use Rattle.bye_laws.specs.Reaching.{MeetsNode}

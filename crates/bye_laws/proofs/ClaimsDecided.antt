@@ -16,14 +16,15 @@ use Rattle.bye_pattern.specs.Conditions.{cond_vars}
 use Rattle.bye_pattern.specs.Conjuncts.{MeetsCond}
 use Rattle.bye_pattern.specs.Patterns.{Meets, Pattern, vars}
 use Rattle.bye_pattern.specs.Starting.{IsCommonAt, IsCommonCondAt}
-use Rattle.bye_laws.specs.Claiming.{IsExtendable, NoDomains, NoneUncovered}
+use Rattle.bye_pattern.specs.FirstClaims.{IsExtendable, NoDomains, NoneUncovered}
 use Rattle.bye_laws.specs.Completeness.{AreExamples}
 use Rattle.bye_laws.proofs.AllConjuncts.{cond_in, cond_shapes, shape_in, shapes}
 use Rattle.bye_laws.proofs.CommonConditions.{lower}
 use Rattle.bye_laws.proofs.ConjunctionStarts.{has_one_domain, one_domain}
 use Rattle.bye_laws.proofs.Decided.{all_or_not, both_or_not, each_or_not, either_or_not, meets_or_not, met_or_not, one_or_none, picked, same_decided}
 use Rattle.bye_laws.proofs.DomainTrees.{some_each}
-use Rattle.bye_laws.proofs.Examples.{at_in, either_less, one_at, seen_list, some_row}
+use Rattle.bye_table.proofs.RowNumbers.{at_in, one_at}
+use Rattle.bye_laws.proofs.Examples.{either_less, seen_list, some_row}
 use Rattle.bye_laws.proofs.Searches.{every_or_not, exactly_or_not, graph_terms, implied_or_not, less_or_not, mapping_or_none, met_term, not_or_not, row_is_or_not, row_or_none, some_or_not}
 use Rattle.bye_laws.proofs.StrongestThere.{class_or_not, common_cond_or_not, common_or_not, triple_or_not}
 use Rattle.bye_laws.proofs.Withins.{alike_or_not, alike_trans, below_or_not, binds_or_not, each_seen, seen_or_not, seen_up, within_below, within_or_not, within_row, within_trans}

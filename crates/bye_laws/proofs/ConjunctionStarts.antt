@@ -27,7 +27,8 @@ use Rattle.bye_laws.specs.Completeness.{AreExamples}
 use Rattle.bye_laws.proofs.AllConjuncts.{AreAllAt, some_lists}
 use Rattle.bye_laws.proofs.CommonConditions.{in_form, lower}
 use Rattle.bye_laws.proofs.Conjunctions.{IsGroupFor, condition_common, each_meets, group_of, of_group, row_var, triple_common}
-use Rattle.bye_laws.proofs.Examples.{at_in, either_less, in_at, in_seen, one_at, seen_in, seen_list, seen_once, some_row}
+use Rattle.bye_table.proofs.RowNumbers.{at_in, one_at}
+use Rattle.bye_laws.proofs.Examples.{either_less, in_at, in_seen, seen_in, seen_list, seen_once, some_row}
 use Rattle.bye_laws.proofs.Withins.{seen_up, within_row, within_self}
 
 -- all rows have one domain, that of x, and these are its variables

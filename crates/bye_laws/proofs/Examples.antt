@@ -5,13 +5,6 @@ use Rattle.bye_table.specs.Domains.{AreSeen, IsBefore, IsRowAt, IsSeen}
 use Rattle.bye_table.specs.Mappings.{Mapping, Name}
 use Rattle.bye_laws.proofs.Withins.{seen_or_not}
 
--- a row with a number is a row, and a row has a number
-pub at_in : (rows : List Mapping) (i : ℕ) (m : Mapping) → IsRowAt rows i m → In rows m
-at_in [] i m at = absurd at
-at_in (r ∷ rows) zero m at = absurd at
-at_in (r ∷ rows) (suc zero) m at = inl at
-at_in (r ∷ rows) (suc (suc i)) m at = inr (at_in rows (suc i) m at)
-
 -- a row has the next number in a longer list
 next_at : (rows : List Mapping) (r m : Mapping) (i : ℕ) → IsRowAt rows i m → IsRowAt (r ∷ rows) (suc i) m
 next_at [] r m i at = absurd at
@@ -72,13 +65,6 @@ before_or (x ∷ xs) v w (inl e) (inl f) d = absurd (d (sym e ∙ f))
 before_or (x ∷ xs) v w (inl e) (inr k) d = inl (inl (e, k))
 before_or (x ∷ xs) v w (inr h) (inl f) d = inr (inl (f, h))
 before_or (x ∷ xs) v w (inr h) (inr k) d = ⊎_elim (λ b. inl (inr b)) (λ b. inr (inr b)) (before_or xs v w h k d)
-
--- a number has one row
-pub one_at : (rows : List Mapping) (i : ℕ) (m n : Mapping) → IsRowAt rows i m → IsRowAt rows i n → m ≡ n
-one_at [] i m n a b = absurd a
-one_at (r ∷ rows) zero m n a b = absurd a
-one_at (r ∷ rows) (suc zero) m n a b = sym a ∙ b
-one_at (r ∷ rows) (suc (suc i)) m n a b = one_at rows (suc i) m n a b
 
 -- of two numbers one is less or they are the same
 pub either_less : (i j : ℕ) → (i < j) ⊎ ((i ≡ j) ⊎ (j < i))

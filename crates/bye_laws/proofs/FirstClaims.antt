@@ -9,7 +9,8 @@ use Rattle.bye_pattern.specs.declared.class.Class.{Class}
 use Rattle.bye_pattern.specs.declared.class.Class.TheVariants.{And, Optional}
 use Rattle.bye_pattern.specs.declared.level.Level.{Level}
 use Rattle.bye_pattern.specs.Certificates.{Admitted, CertificateValue, Claim, Domains, Extension, Fork, GoesWith, IsShown, NoRoot, Shows, ShowsAdmitted, ShowsDomains, ShowsExtension, ShowsFork, ShowsNoRoot, ShowsUncovered, Uncovered}
-use Rattle.bye_laws.specs.Claiming.{FirstClaims, IsExtendable, IsFirstClaim, IsFirstWith, IsLeast, IsOneClaim, NoDomains, NoFork, NoneUncovered, listing}
+use Rattle.bye_pattern.specs.FirstClaims.{IsExtendable, IsFirstClaim, IsFirstWith, IsLeast, IsOneClaim, NoDomains, NoFork, NoneUncovered, listing}
+use Rattle.bye_laws.specs.Claiming.{FirstClaims}
 use Rattle.bye_pattern.specs.Fitting.{NoFit}
 use Rattle.bye_pattern.specs.Keeping.{IsOfClass}
 use Rattle.bye_laws.specs.Completeness.{Allows, AreExamples}
@@ -32,7 +33,8 @@ use Rattle.bye_laws.proofs.Decided.{both_or_not}
 use Rattle.bye_laws.proofs.DomainTrees.{class_first, first_or_not}
 use Rattle.bye_laws.proofs.Examples.{seen_list}
 use Rattle.bye_laws.proofs.Listings.{listed_once, listed_whole}
-use Rattle.bye_laws.proofs.Searches.{first_has, first_or_none, least_row_or_none, one_first_with, one_least, some_or_not}
+use Rattle.bye_pattern.proofs.Firsts.{first_has}
+use Rattle.bye_laws.proofs.Searches.{first_or_none, least_row_or_none, one_first_with, one_least, some_or_not}
 use Rattle.bye_laws.proofs.Withins.{seen_up}
 
 -- a first claim goes with its class and shows

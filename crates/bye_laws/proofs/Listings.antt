@@ -6,7 +6,7 @@ use Rattle.bye_terms.specs.declared.term.Term.{Term}
 use Rattle.bye_terms.specs.Members.{EachOnce, In}
 use Rattle.bye_terms.proofs.Tests.{bool_cases, not_both}
 use Rattle.bye_table.specs.Mappings.{Binds, Mapping, Name, NoRepeat, Pairs, row_mapping}
-use Rattle.bye_laws.specs.Claiming.{listing, with_value}
+use Rattle.bye_pattern.specs.FirstClaims.{listing, with_value}
 use Rattle.bye_table.proofs.Merging.{binds, bound, not_bound, some_or_none, unbound}
 
 -- what a longer list tells

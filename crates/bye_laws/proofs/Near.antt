@@ -22,7 +22,7 @@ use Rattle.bye_pattern.specs.Starting.{IsCommonAt, IsStartForest, IsStartTree}
 use Rattle.bye_pattern.specs.Trees.{Forest, Select, Tree, leaf, more, node, own_triples, plain_select}
 use Rattle.bye_pattern.proofs.OneGroup.{fits_meets, meets_fits}
 use Rattle.bye_laws.specs.Later.{AreNear, HasTerm, HaveTerms, NearIsEnough}
-use Rattle.bye_laws.proofs.Examples.{at_in}
+use Rattle.bye_table.proofs.RowNumbers.{at_in}
 use Rattle.bye_laws.proofs.PassMaps.{tree_map}
 
 -- a variable in a place has the term that stands there

@@ -26,7 +26,7 @@ use Rattle.bye_laws.specs.Reaching.{IsChild, MeetsNode, NoValues, children}
 use Rattle.bye_laws.proofs.ByNodes.{Answers, by_nodes, class_at, once_designed, order_at, self_node}
 use Rattle.bye_laws.proofs.CommonConditions.{in_form}
 use Rattle.bye_laws.proofs.DomainLabels.{label_self}
-use Rattle.bye_laws.proofs.Examples.{at_in}
+use Rattle.bye_table.proofs.RowNumbers.{at_in}
 use Rattle.bye_laws.specs.QueryDomains.{AreDomains}
 use Rattle.bye_laws.proofs.Labelled.{AllCommon, AllCommonIn}
 use Rattle.bye_laws.proofs.Lifts.{weaker}

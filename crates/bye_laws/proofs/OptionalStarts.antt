@@ -21,7 +21,7 @@ use Rattle.bye_laws.proofs.Examples.{in_seen, seen_in, seen_list, seen_once}
 use Rattle.bye_laws.proofs.Forks.{fork_none}
 use Rattle.bye_laws.specs.QueryDomains.{AreDomains}
 use Rattle.bye_laws.proofs.Labelled.{AllCommon, AllCommonIn, common_of, domains_of}
-use Rattle.bye_laws.specs.Claiming.{listing}
+use Rattle.bye_pattern.specs.FirstClaims.{listing}
 use Rattle.bye_laws.proofs.Listings.{listed_once, listed_whole}
 use Rattle.bye_laws.proofs.OptionalEnough.{start_tree_enough}
 use Rattle.bye_laws.proofs.OptionalFits.{extension_none, optional_noroot_none, optional_uncovered_none, start_tree_right}

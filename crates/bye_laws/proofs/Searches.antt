@@ -15,9 +15,10 @@ use Rattle.bye_table.proofs.Merging.{bound, in_or_not, some_same}
 use Rattle.bye_pattern.specs.declared.slot.Slot.{Slot}
 use Rattle.bye_pattern.specs.declared.slot.Slot.TheVariants.{Var, Const}
 use Rattle.bye_pattern.specs.Patterns.{Meets, Pattern, slot_under, slot_vars, vars}
-use Rattle.bye_laws.specs.Claiming.{IsFirstWith, IsLeast, listing, with_value}
+use Rattle.bye_pattern.specs.FirstClaims.{IsFirstWith, IsLeast, listing, with_value}
 use Rattle.bye_laws.proofs.Decided.{both_or_not, each_or_not, one_or_none}
-use Rattle.bye_laws.proofs.Examples.{either_less, one_at}
+use Rattle.bye_table.proofs.RowNumbers.{one_at}
+use Rattle.bye_laws.proofs.Examples.{either_less}
 use Rattle.bye_laws.proofs.Listings.{listed_whole}
 use Rattle.bye_laws.proofs.Withins.{binds_or_not}
 
@@ -39,13 +40,7 @@ pub every_or_not : {X : Type 0} (P : X → Type 0) → ((x : X) → P x ⊎ (P x
 every_or_not P decide xs inside =
     ⊎_elim (λ each. inl (λ x. ⊎_elim (λ h. h) (λ n. each x (inside x n)) (decide x))) (λ no. inr (λ all. no (λ x h. all x))) (each_or_not P decide xs)
 
--- the first with a property is of the list, and has it
-pub first_has : (P : Name → Type 0) (xs : List Name) (x : Name) → IsFirstWith P xs x → In xs x × P x
-first_has P [] x h = absurd h
-first_has P (y ∷ xs) x (inl h) = (inl h.0, subst P h.0 h.1)
-first_has P (y ∷ xs) x (inr h) = let w = first_has P xs x h.1 in (inr w.0, w.1)
-
--- it is one
+-- the first with a property is one
 pub one_first_with : (P : Name → Type 0) (xs : List Name) (x y : Name) → IsFirstWith P xs x → IsFirstWith P xs y → x ≡ y
 one_first_with P [] x y h k = absurd h
 one_first_with P (z ∷ xs) x y (inl h) (inl k) = sym h.0 ∙ k.0

@@ -22,7 +22,8 @@ use Rattle.bye_laws.specs.Strongest.{AreNames, IsValidTriple}
 use Rattle.bye_laws.proofs.ConjunctionStarts.{one_domain}
 use Rattle.bye_laws.proofs.DomainLabels.{label_self}
 use Rattle.bye_laws.proofs.DomainTrees.{domain_tree}
-use Rattle.bye_laws.proofs.Examples.{at_in, seen_list}
+use Rattle.bye_table.proofs.RowNumbers.{at_in}
+use Rattle.bye_laws.proofs.Examples.{seen_list}
 use Rattle.bye_laws.proofs.KeptQueries.{one_start}
 use Rattle.bye_laws.proofs.OneDomainTree.{one_domain_tree}
 use Rattle.bye_laws.proofs.StrongestAt.{around_there, rows_there, sorted_once, start_at}

@@ -29,7 +29,7 @@ use Rattle.bye_laws.proofs.AllConjuncts.{cond_shapes, kind_conds, value_conds}
 use Rattle.bye_laws.proofs.BothClasses.{certificates_sound}
 use Rattle.bye_laws.proofs.ClaimLists.{admitted_by_list}
 use Rattle.bye_laws.proofs.CommonConditions.{lower}
-use Rattle.bye_laws.proofs.Examples.{at_in}
+use Rattle.bye_table.proofs.RowNumbers.{at_in}
 use Rattle.bye_laws.proofs.Served.{right_served}
 use Rattle.bye_laws.proofs.StartsRight.{by_covering, conjunction_right}
 use Rattle.bye_laws.proofs.StrongestAt.{start_at}

@@ -33,7 +33,7 @@ use Rattle.bye_laws.specs.Serving.{IsNeeded}
 use Rattle.bye_laws.specs.Strongest.{AreAround, AreRowsOf, IsStrongestNode}
 use Rattle.bye_laws.proofs.AnyRight.{root_of_right}
 use Rattle.bye_laws.proofs.ClaimLists.{extension_by_list, uncovered_by_list}
-use Rattle.bye_laws.proofs.Examples.{at_in}
+use Rattle.bye_table.proofs.RowNumbers.{at_in}
 use Rattle.bye_laws.proofs.LocalPass.{both_in, children_of, first_of_in, local_kept, rest_of_in, settled_down, thinned_right}
 use Rattle.bye_laws.proofs.LocalQuestions.{drop_cond}
 use Rattle.bye_laws.proofs.PassMaps.{thinned_map}

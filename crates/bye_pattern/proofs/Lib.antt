@@ -7,6 +7,8 @@ pub mod FourRules
 pub mod Places
 pub mod Reaching
 pub mod Covered
+pub mod Firsts
+pub mod Answered
 pub mod HeaderLines
 pub mod RowLines
 pub mod RowMappings

@@ -3,11 +3,13 @@ use Rattle.std.proofs.Common.{◌≡◌, refl, ℕ, true, false, cond, List, [],
 use Rattle.std.specs.List.{AllByRecursion}
 use Rattle.std.specs.Str.{bytes_eq}
 use Rattle.std.proofs.lemmas.Slice.Eq.{bytes_eq-Decides}
+use Rattle.bye_terms.proofs.Members.{all_from}
 use Rattle.bye_terms.proofs.Tests.{not_both}
 use Rattle.bye_terms.specs.Members.{In, EachOnce}
 use Rattle.bye_terms.specs.declared.term.Term.{Term}
 use Rattle.bye_table.specs.Mappings.{Name, Pairs, Binds, row_mapping, NoRepeat}
-use Rattle.bye_pattern.specs.Tables.{TableValue, names_of, IsRowOf, IsFirstTable}
+use Rattle.bye_table.specs.Tables.{IsOverVars, IsTable, TableValue}
+use Rattle.bye_pattern.specs.Tables.{names_of, IsHeader, IsRowOf, IsRows, IsFirstTable}
 
 not_some : IsSome {T = Term} None → ⊥
 not_some h = cc
@@ -48,10 +50,20 @@ each P (r ∷ rows) (is, all) row h = ⊎_elim (λ same. subst P same is) (λ k.
 
 -- each row of a table that was read
 pub rows_bind : (bytes : List ℕ) (table : TableValue) → IsFirstTable bytes table → (row : Pairs) → In table.rows row
-    → NoRepeat row × ((v : Name) → Binds (row_mapping row) v ↔ In table.header v)
+    → NoRepeat row × ((v : Name) → Binds (row_mapping row) v ↔ In table.vars v)
 rows_bind bytes table is row h =
-    let one = each (IsRowOf table.header) table.rows is.written.filled.cells row h in
-    (row_repeats_none table.header row is.written.named.distinct one, row_binds table.header row one)
+    let one = each (IsRowOf table.vars) table.rows is.written.filled.cells row h in
+    (row_repeats_none table.vars row is.written.named.distinct one, row_binds table.vars row one)
 
-pub names_differ : (bytes : List ℕ) (table : TableValue) → IsFirstTable bytes table → EachOnce table.header
+pub names_differ : (bytes : List ℕ) (table : TableValue) → IsFirstTable bytes table → EachOnce table.vars
 names_differ bytes table is = is.written.named.distinct
+
+-- so a header and its rows are a table
+pub table_of : (header : List Name) (text : List ℕ) (rows : List Pairs) → IsHeader header → IsRows header text rows → IsTable (record { vars = header; rows = rows })
+table_of header text rows named filled =
+    let row : (r : Pairs) → In rows r → IsRowOf header r = each (IsRowOf header) rows filled.cells in
+    record {
+      once = named.distinct;
+      over = all_from (IsOverVars header) rows (λ r h v b. (row_binds header r (row r h) v).0 b);
+      rows = all_from NoRepeat rows (λ r h. row_repeats_none header r named.distinct (row r h));
+    }

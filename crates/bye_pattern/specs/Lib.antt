@@ -15,10 +15,12 @@ pub mod Optional
 pub mod Starting
 pub mod Keeping
 pub mod Certificates
+pub mod FirstClaims
 pub mod Worked
 pub mod WorkedWritten
 pub mod Common
 pub mod Covering
+pub mod Apart
 pub mod Reading
 pub mod Tables
 pub mod Learning

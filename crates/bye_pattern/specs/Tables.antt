@@ -1,4 +1,4 @@
--- Tables, and the table documents of the first form: UTF-8, a header line of names, and a line of raw IRIs for each row.
+-- The table documents of the first form: UTF-8, a header line of names, and a line of raw IRIs for each row.
 use Rattle.std.specs.Prelude.{◌≡◌, ℕ, Bool, true, false, ◌&&◌, ◌||◌, ◌==◌, List, [], ◌∷◌, ◌++◌, map, codes}
 use Rattle.std.specs.List.{flat_map, list_all, AllByRecursion}
 use Rattle.std.specs.Str.{encode_utf8_all, all_scalars}
@@ -7,11 +7,7 @@ use Rattle.bye_terms.specs.Iris.{IsIri}
 use Rattle.bye_terms.specs.Members.{EachOnce}
 use Rattle.bye_terms.specs.Spellings.{term_text}
 use Rattle.bye_table.specs.Mappings.{Name, Pairs}
-
--- the names of its columns, and its rows in their order
-pub record TableValue : Type 0 where
-  pub header : List Name
-  pub rows : List Pairs
+use Rattle.bye_table.specs.Tables.{TableValue}
 
 -- a character of a name in a header: A to Z, a to z, 0 to 9 or `_`
 abbrev pub is_header_char : ℕ → Bool
@@ -69,18 +65,18 @@ pub record IsRows (header : List Name) (text : List ℕ) (rows : List Pairs) : T
   pub cells : AllByRecursion (IsRowOf header) rows
 
 -- the text is a header line and the lines of the rows
-pub record IsTable (text : List ℕ) (table : TableValue) : Type 0 where
-  pub named : IsHeader table.header
+pub record IsTableText (text : List ℕ) (table : TableValue) : Type 0 where
+  pub named : IsHeader table.vars
   pub body : List ℕ
-  pub lines : text ≡ header_text table.header ++ body
-  pub filled : IsRows table.header body table.rows
+  pub lines : text ≡ header_text table.vars ++ body
+  pub filled : IsRows table.vars body table.rows
 
 -- the bytes are the UTF-8 of such a text
 pub record IsFirstTable (bytes : List ℕ) (table : TableValue) : Type 0 where
   pub text : List ℕ
   pub scalars : all_scalars text ≡ true
   pub encoded : bytes ≡ encode_utf8_all text
-  pub written : IsTable text table
+  pub written : IsTableText text table
 
 -- no document is a table in two ways
 abbrev pub OneTable : Type 0

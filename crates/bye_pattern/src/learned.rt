@@ -1,9 +1,17 @@
+use crate::claim::Claim;
 use crate::pattern::TriplePattern;
 use bye_terms::Var;
 
-/// What was learned: the triple patterns of the query, or the first variable that none contains.
+/// SELECT DISTINCT of these variables over one group of triple patterns.
+#[derive(Debug, Drop)]
+pub struct Conjunction {
+    pub vars: Vec<Var>,
+    pub triples: Vec<TriplePattern>,
+}
+
+/// What was learned: a query that fits, or why none does.
 #[derive(Debug, Drop)]
 pub enum Learned {
-    Query(Vec<TriplePattern>),
-    Uncovered(Var),
+    Query(Conjunction),
+    Refused(Claim),
 }

@@ -1,23 +1,26 @@
 //! The strongest query of one conjunction without conditions that the wanted rows have in common.
 
-ghost use Rattle.std.specs.Prelude.{◌≡◌, ◌<◌, not, length, IfOk, find};
+ghost use Rattle.std.specs.Prelude.{◌≡◌, ◌∷◌, ◌<◌, List, not, length, map, IfOk, find};
 ghost use Rattle.std.specs.List.{AllByRecursion, filter};
 ghost use Rattle.std.specs.Option.{option_map};
 ghost use Rattle.bye_terms.specs.Terms.{IsTriple};
-ghost use Rattle.bye_table.specs.Mappings.{NoRepeat, Exactly};
+ghost use Rattle.bye_terms.specs.Members.{In};
+ghost use Rattle.bye_table.specs.Mappings.{Name, NoRepeat, Exactly, row_mapping};
+ghost use Rattle.bye_table.specs.Tables.{IsTable};
 ghost use Rattle.bye_pattern.specs.Candidates as candidate;
 ghost use Rattle.bye_pattern.specs.Meeting as meeting;
 ghost use Rattle.bye_pattern.specs.Covering as covering;
-ghost use Rattle.bye_pattern.specs.Learning.{wanted_of, AreFull, IsStrongest, IsLearned};
+ghost use Rattle.bye_pattern.specs.Learning.{IsStrongest, IsLearned};
 
+use crate::apart::{bound_vars, first_apart};
 use crate::candidates::candidates;
-use crate::learned::Learned;
+use crate::claim::Claim;
+use crate::learned::{Conjunction, Learned};
 use crate::meeting::meets_all;
 use crate::pattern::TriplePattern;
 use crate::ranked::in_trial_order;
 use crate::slot::Slot;
-use crate::table::Table;
-use bye_table::Row;
+use bye_table::{Row, Table};
 use bye_terms::{Memory, Triple, Var, push_item};
 use std::alloc::Global;
 
@@ -75,27 +78,63 @@ fn first_uncovered<'a>(vars: &'a [Var], patterns: &[TriplePattern]) -> Option<&'
     None
 }
 
-/// The triple patterns that all wanted rows have in common, in the order in which they are tried.
-fn strongest(alloc: Global, graph: &[Triple], wanted: &Table) -> Result<Vec<TriplePattern>, Memory>
-    requires { 0 < length wanted.now.rows }
-    ensures { IfOk result (λ v. AllByRecursion IsTriple graph.now → AllByRecursion (Exactly wanted.now.header) (wanted_of wanted.now)
-        → IsStrongest graph.now wanted.now v.items) }
+/// The triple patterns that all rows have in common, which bind the same variables as the first of them, in the order in which
+/// they are tried.
+fn strongest(
+    alloc: Global,
+    graph: &[Triple],
+    first: &Row,
+    rows: &[Row],
+) -> Result<Vec<TriplePattern>, Memory>
+    ensures { IfOk result (λ v. (vars : List Name) → AllByRecursion IsTriple graph.now → AllByRecursion (Exactly vars) (map row_mapping rows.now)
+        → In rows.now first.now → IsStrongest graph.now vars (map row_mapping rows.now) v.items) }
 {
-    let rows = wanted.rows();
-    let kept = common_candidates(alloc, graph, &rows[0], rows)?;
+    let kept = common_candidates(alloc, graph, first, rows)?;
     in_trial_order(alloc, kept)
 }
 
-/// The query of all triple patterns that the wanted rows have in common, or the first variable that none of them
-/// contains. There is one row at least.
+/// What is learned of these rows of a table of these variables: the first of them and those that come later.
+fn learn_rows(
+    alloc: Global,
+    graph: &[Triple],
+    vars: &[Var],
+    rows: &[Row],
+    first: &Row,
+    later: &[Row],
+) -> Result<Learned, Memory>
+    ensures { IfOk result (λ learned. AllByRecursion IsTriple graph.now → rows.now ≡ first.now ∷ later.now → IsTable (record { vars = vars.now; rows = rows.now })
+        → IsLearned graph.now (record { vars = vars.now; rows = rows.now }) learned) }
+{
+    if let Some((number, variable)) = first_apart(vars, first, later) {
+        let claim = Claim::Domains(1, number, variable.copy(alloc)?);
+        return Ok(Learned::Refused(claim));
+    }
+    let bound = bound_vars(alloc, vars, first)?;
+    if bound.as_slice().is_empty() {
+        return Ok(Learned::Refused(Claim::NoRoot));
+    }
+    let triples = strongest(alloc, graph, first, rows)?;
+    match first_uncovered(bound.as_slice(), triples.as_slice()) {
+        None => Ok(Learned::Query(Conjunction {
+            vars: bound,
+            triples,
+        })),
+        Some(variable) => {
+            let variable = variable.copy(alloc)?;
+            Ok(Learned::Refused(Claim::Uncovered(variable)))
+        }
+    }
+}
+
+/// The query of all triple patterns that the wanted rows have in common, over the variables that they bind; or the first claim that
+/// no query of one conjunction fits. There is one row at least.
 pub fn learn(alloc: Global, graph: &[Triple], wanted: &Table) -> Result<Learned, Memory>
     requires { 0 < length wanted.now.rows }
-    ensures { IfOk result (λ learned. AllByRecursion IsTriple graph.now → AreFull wanted.now.header (wanted_of wanted.now)
-        → IsLearned graph.now wanted.now learned) }
+    ensures { IfOk result (λ learned. AllByRecursion IsTriple graph.now → IsLearned graph.now wanted.now learned) }
 {
-    let patterns = strongest(alloc, graph, wanted)?;
-    match first_uncovered(wanted.vars(), patterns.as_slice()) {
-        None => Ok(Learned::Query(patterns)),
-        Some(v) => Ok(Learned::Uncovered(v.copy(alloc)?)),
+    let rows = wanted.rows();
+    match rows.split_first() {
+        Some((first, later)) => learn_rows(alloc, graph, wanted.vars(), rows, first, later),
+        None => unreachable!(),
     }
 }

@@ -1,8 +1,10 @@
 //! Patterns of queries, what their answers are, and the learner of one conjunction.
 #![tactic(auto)]
 
+mod apart;
 mod candidates;
 mod cells;
+mod claim;
 mod class;
 mod cond;
 mod constant;
@@ -23,6 +25,7 @@ mod table;
 mod table_err;
 mod worked;
 
+pub use claim::Claim;
 pub use class::Class;
 pub use cond::Cond;
 pub use constant::Constant;
@@ -32,7 +35,7 @@ pub use laws::{
     classes_at_one_node, common_patterns_fit, designed_at_once, domains_by_numbers,
     dropping_keeps_answers, fitting_is_meeting, none_fits_where_uncovered, one_table,
 };
-pub use learned::Learned;
+pub use learned::{Conjunction, Learned};
 pub use learner::learn;
 pub use level::Level;
 pub use node::Node;
@@ -40,7 +43,7 @@ pub use pattern::TriplePattern;
 pub use printer::write_conjunction;
 pub use rule::Rule;
 pub use slot::Slot;
-pub use table::{Table, read_table};
+pub use table::read_table;
 pub use table_err::TableErr;
 pub use worked::{
     blocks_after_optionals, claims_of_admitted, claims_of_domains, claims_of_extension,

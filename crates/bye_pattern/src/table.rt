@@ -1,47 +1,16 @@
 ghost use Rattle.std.specs.Prelude.{◌≡◌, List, IfOk, IsErrOf};
 ghost use Rattle.std.specs.Str.{chars};
 ghost use Rattle.bye_table.specs.Mappings.{Pairs};
-ghost use Rattle.bye_pattern.specs.Tables.{TableValue, IsHeader, IsRows, IsTable, IsFirstTable};
+ghost use Rattle.bye_table.specs.Tables.{TableValue};
+ghost use Rattle.bye_pattern.specs.Tables.{IsHeader, IsRows, IsTableText, IsFirstTable};
 
 use crate::cells::read_cells;
 use crate::header::read_header;
 use crate::table_err::TableErr;
-use bye_table::Row;
+use bye_table::{Row, Table};
 use bye_terms::{Cursor, Memory, Var, push_item};
 use std::alloc::Global;
-use std::marker::Model;
 use std::str;
-
-/// A table: the names of its columns, and its rows in their order.
-#[derive(Debug, Drop)]
-pub struct Table {
-    vars: Vec<Var>,
-    rows: Vec<Row>,
-}
-
-impl Model for Table {
-    ghost use Rattle.bye_pattern.specs.Tables.{TableValue};
-
-    ghost Value = { TableValue };
-
-    ghost view = { λ t. record { header = t.vars.items; rows = t.rows.items } };
-}
-
-impl Table {
-    /// The names of the columns.
-    pub fn vars(&self) -> &[Var]
-        ensures { result.now ≡ self.now.header }
-    {
-        self.vars.as_slice()
-    }
-
-    /// The rows.
-    pub fn rows(&self) -> &[Row]
-        ensures { result.now ≡ self.now.rows }
-    {
-        self.rows.as_slice()
-    }
-}
 
 /// The rows whose lines the text is.
 fn read_rows(alloc: Global, vars: &[Var], mut rest: Cursor<'_>) -> Result<Vec<Row>, TableErr>
@@ -55,15 +24,15 @@ fn read_rows(alloc: Global, vars: &[Var], mut rest: Cursor<'_>) -> Result<Vec<Ro
         let Some(pairs) = read_cells(alloc, vars, &mut rest)? else {
             return Err(TableErr::NotFirstTable);
         };
-        push_item(&mut rows, Row::new(pairs))?;
+        push_item(&mut rows, Row::of_pairs(pairs))?;
     }
     Ok(rows)
 }
 
 fn read_text(alloc: Global, text: &str) -> Result<Table, TableErr>
-    ensures found { IfOk result (λ table. IsTable (chars text.now) table) }
+    ensures found { IfOk result (λ table. IsTableText (chars text.now) table) }
     ensures none { IsErrOf result TableErr.NotFirstTable
-        → (table : TableValue) → IsTable (chars text.now) table → ⊥ }
+        → (table : TableValue) → IsTableText (chars text.now) table → ⊥ }
 {
     let mut rest = Cursor::new(text);
     let Some(line) = rest.until('\n') else {
@@ -73,7 +42,7 @@ fn read_text(alloc: Global, text: &str) -> Result<Table, TableErr>
         return Err(TableErr::NotFirstTable);
     };
     match read_rows(alloc, vars.as_slice(), rest) {
-        Ok(rows) => Ok(Table { vars, rows }),
+        Ok(rows) => Ok(Table::of_rows(vars, rows)),
         Err(fault) => Err(fault),
     }
 }

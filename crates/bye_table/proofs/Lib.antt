@@ -1,1 +1,5 @@
 pub mod Merging
+pub mod RowNames
+pub mod RowNumbers
+pub mod OneSpelling
+pub mod SortedSets

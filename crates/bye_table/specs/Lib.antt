@@ -1,3 +1,6 @@
 pub mod Mappings
+pub mod Tables
+pub mod Cells
+pub mod Sorted
 pub mod Domains
 pub mod DomainTrees

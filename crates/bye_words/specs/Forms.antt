@@ -3,7 +3,7 @@ use Rattle.std.specs.Prelude.{◌≡◌, List, [], ◌∷◌, map, codes, ◌⊎
 use Rattle.std.specs.List.{flat_map, AllByRecursion}
 use Rattle.bye_terms.specs.Members.{In, EachOnce}
 use Rattle.bye_words.specs.Pairs.{Word, Setting, setting_words}
-use Rattle.bye_words.specs.Kinds.{Kind, File, IsOfKind}
+use Rattle.bye_words.specs.Kinds.{Kind, File, OneOf, IsOfKind}
 use Rattle.bye_words.specs.declared.form_name.FormName.{FormName}
 use Rattle.bye_words.specs.declared.form_name.FormName.TheVariants as names
 
@@ -59,14 +59,40 @@ IsNoReading table words = (form : Form) (settings : List Setting) → In table f
 abbrev pub file : Word → Name
 file text = record { text = text; kind = File }
 
--- `learn` with `--graph FILE` and `--wanted FILE`
+-- a name whose value is one of these words
+abbrev pub choice : Word → List Word → Name
+choice text words = record { text = text; kind = OneOf words }
+
+-- the forms in which tables are read
+abbrev pub read_forms : List Word
+read_forms = codes "tsv" ∷ codes "json" ∷ []
+
+-- and those in which they are written
+abbrev pub written_forms : List Word
+written_forms = codes "tsv" ∷ codes "json" ∷ codes "csv" ∷ []
+
+-- `learn` with `--graph FILE` and `--wanted FILE`, and maybe `--tables FORM`
 abbrev pub learn : Form
-learn = record { name = names.Learn; command = codes "learn"; must = file (codes "--graph") ∷ file (codes "--wanted") ∷ []; may = [] }
+learn = record {
+  name = names.Learn;
+  command = codes "learn";
+  must = file (codes "--graph") ∷ file (codes "--wanted") ∷ [];
+  may = choice (codes "--tables") read_forms ∷ [];
+}
 
 -- `convert` with `--graph FILE`
 abbrev pub convert : Form
 convert = record { name = names.Convert; command = codes "convert"; must = file (codes "--graph") ∷ []; may = [] }
 
+-- `convert` with `--table FILE`, `--from FORM` and `--to FORM`
+abbrev pub convert_table : Form
+convert_table = record {
+  name = names.ConvertTable;
+  command = codes "convert";
+  must = file (codes "--table") ∷ choice (codes "--from") read_forms ∷ choice (codes "--to") written_forms ∷ [];
+  may = [];
+}
+
 -- the forms of the program
 abbrev pub forms : List Form
-forms = learn ∷ convert ∷ []
+forms = learn ∷ convert ∷ convert_table ∷ []

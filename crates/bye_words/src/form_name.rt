@@ -5,4 +5,6 @@ pub enum FormName {
     Learn,
     /// `convert` of a graph.
     Convert,
+    /// `convert` of a table.
+    ConvertTable,
 }

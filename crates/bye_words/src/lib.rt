@@ -45,3 +45,4 @@ pub use sending::send_line;
 pub use settings::Settings;
 pub use status::Status;
 pub use table::forms;
+pub use word::is_word;

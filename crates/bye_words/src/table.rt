@@ -7,8 +7,14 @@ use crate::form_name::FormName;
 use crate::kind::Kind;
 use crate::name::Name;
 
+/// The forms in which tables are read.
+const READ_FORMS: &[&str] = &["tsv", "json"];
+
+/// The forms in which tables are written.
+const WRITTEN_FORMS: &[&str] = &["tsv", "json", "csv"];
+
 /// The forms of the program's words.
-static FORMS: [Form; 2] = [
+static FORMS: [Form; 3] = [
     Form {
         name: FormName::Learn,
         command: "learn",
@@ -22,7 +28,10 @@ static FORMS: [Form; 2] = [
                 kind: Kind::File,
             },
         ],
-        may: &[],
+        may: &[Name {
+            text: "--tables",
+            kind: Kind::OneOf(READ_FORMS),
+        }],
     },
     Form {
         name: FormName::Convert,
@@ -31,6 +40,25 @@ static FORMS: [Form; 2] = [
             text: "--graph",
             kind: Kind::File,
         }],
+        may: &[],
+    },
+    Form {
+        name: FormName::ConvertTable,
+        command: "convert",
+        must: &[
+            Name {
+                text: "--table",
+                kind: Kind::File,
+            },
+            Name {
+                text: "--from",
+                kind: Kind::OneOf(READ_FORMS),
+            },
+            Name {
+                text: "--to",
+                kind: Kind::OneOf(WRITTEN_FORMS),
+            },
+        ],
         may: &[],
     },
 ];

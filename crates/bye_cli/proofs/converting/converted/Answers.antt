@@ -1,13 +1,13 @@
 use Rattle.std.proofs.Common.{refl, inl, arith}
 use Rattle.std.proofs.lemmas.Result.{err_from_is_err_and}
 use Rattle.bye_cli.specs.Words.{Convert}
-use Rattle.bye_words.specs.declared.role.Role.TheVariants.{Graph}
+use Rattle.bye_cli.specs.Documents.{OfGraph}
 use Rattle.bye_cli.proofs.Unread.{reached_unread}
 use Rattle.bye_cli.proofs.converting.converted.Goals as goal
 
 pub returns-in_err-graph-clause-cause : goal.returns-in_err-graph-clause-cause
 returns-in_err-graph-clause-cause g c = let p = err_from_is_err_and c.from_residual.result c.from_residual.ensures.1 in
-    rw (p.1, p.2) (λ words is. reached_unread _ words (Convert c.args.name.now) (Graph, c.args.name.now) _ _ _ c.in_err-graph.field-0.0 is (inl refl) (omega arith) c.in_err-graph.ensures.unread)
+    rw (p.1, p.2) (λ words is. reached_unread _ words (Convert c.args.name.now) (OfGraph, c.args.name.now) _ _ _ c.in_err-graph.field-0.0 is (inl refl) (omega arith) c.in_err-graph.ensures.unread)
 
 pub returns-in_err-bytes-clause-cause : goal.returns-in_err-bytes-clause-cause
 returns-in_err-bytes-clause-cause g c = let p = err_from_is_err_and c.from_residual-in_err-bytes.result c.from_residual-in_err-bytes.ensures.1 in

@@ -1,9 +1,9 @@
-use Rattle.std.proofs.Common.{sym, subst}
+use Rattle.std.proofs.Common.{sym, subst, ◌∙◌}
 use Rattle.bye_io.specs.Counts.{Rose}
 use Rattle.bye_cli.specs.Messages.{IsMessage}
 use Rattle.bye_words.specs.declared.status.Status.{Status}
 use Rattle.bye_cli.proofs.Exclusive.{Faults, Past, Missing, Bare}
-use Rattle.bye_cli.proofs.Settled.{Run, words_alone, settled, answered, headline, conversion, message}
+use Rattle.bye_cli.proofs.Settled.{Run, words_alone, settled, answered, headline, conversion, is_document, message}
 use Rattle.bye_cli.proofs.program.run_program.Given.{Over}
 use Rattle.bye_cli.proofs.program.run_program.Goals as goal
 
@@ -34,6 +34,9 @@ returns-clause-err g c =
 
 pub returns-clause-words : goal.returns-clause-words
 returns-clause-words g c = words_alone _ _ _ _ _ _ _ _ c.perform-outcome.result (run_of g c) c.report.result c.report.ensures.status
+
+pub returns-clause-document : goal.returns-clause-document
+returns-clause-document g c = λ e. is_document _ _ _ _ c.perform-outcome.result c.perform-outcome.ensures.failed (sym c.report.ensures.status ∙ e)
 
 pub returns-clause-faulty : goal.returns-clause-faulty
 returns-clause-faulty g c = λ quiet stopped. settled _ _ _ _ _ _ _ _ c.perform-outcome.result (run_of g c) c.report.result c.report.ensures.status quiet Faults stopped

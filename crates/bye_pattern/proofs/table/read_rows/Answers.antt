@@ -21,14 +21,14 @@ pub loop-rest-preserved : goal.loop-rest-preserved
 loop-rest-preserved c =
     let e = rw c.in-Some.is at c.in_ok-pairs.ensures in
     let w = row_takes _ _ _ c.requires.some (sym e) in
-    let k = pushed _ _ _ _ c.in_ok-push_item.ensures.ok c.new.ensures in
+    let k = pushed _ _ _ _ c.in_ok-push_item.ensures.ok c.of_pairs.ensures in
     record {
       lines = rows_push _ _ _ _ _ _ c.loop-rest.invariant.lines w.0 k;
       cells = filled_push _ _ _ _ c.loop-rest.invariant.cells w.1 k;
     }
 
-pub new-requires : goal.new-requires
-new-requires c =
+pub of_pairs-requires : goal.of_pairs-requires
+of_pairs-requires c =
     let e = rw c.in-Some.is at c.in_ok-pairs.ensures in
     row_repeats_none _ _ c.requires.distinct (row_takes _ _ _ c.requires.some (sym e)).1
 

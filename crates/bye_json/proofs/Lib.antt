@@ -1,0 +1,16 @@
+pub mod Trees
+pub mod Texts
+pub mod Steps
+pub mod Names
+pub mod Cells
+pub mod Faults
+pub mod Answering
+pub mod Tokens
+pub mod Clear
+pub mod TermBack
+pub mod ByName
+pub mod RowBack
+pub mod TableBack
+pub mod OneTable
+pub mod Splits
+pub mod OneAnswer

@@ -1,0 +1,10 @@
+pub mod Trees
+pub mod TermObjects
+pub mod Strings
+pub mod Documents
+pub mod Answers
+pub mod PartFaults
+pub mod Written
+pub mod Tokens
+pub mod ReadingBack
+pub mod Laws

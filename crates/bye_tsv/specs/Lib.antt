@@ -1,0 +1,9 @@
+pub mod Numbers
+pub mod Fields
+pub mod Documents
+pub mod FieldSteps
+pub mod DocSteps
+pub mod Written
+pub mod WrittenFields
+pub mod Records
+pub mod ReadBack
