@@ -9,7 +9,7 @@ use Rattle.bye_cli.specs.Documents.{Files, IsTold}
 use Rattle.bye_cli.specs.Problem.{IsAsked, IsQueryText, IsRefusalLine, IsDoneOutput, IsRefusedOutput, IsOutput}
 use Rattle.bye_cli.specs.Converting.{IsConverted, IsTableConverted, IsConversion}
 use Rattle.bye_cli.specs.Headline.{NoneFits, Headline}
-use Rattle.bye_cli.specs.Causes.{IsCause, IsReason, IsFailure, IsFaulty, IsUnreadable, IsMissing, IsWithoutRow, IsQuiet, IsAskedCase}
+use Rattle.bye_cli.specs.Causes.{IsCause, IsReason, IsFailure, IsFaulty, IsPast, IsUnreadable, IsMissing, IsWithoutRow, IsQuiet, IsAskedCase}
 use Rattle.bye_words.specs.Lines.{err_line}
 use Rattle.bye_words.specs.Statuses.{number_of, status_of}
 use Rattle.bye_cli.specs.Messages.{SendsLine, IsReport, IsMessage}
@@ -138,7 +138,7 @@ is_done (Ok endings.Done) e = refl
 is_done (Ok endings.Refused) e = cc
 is_done (Err refusal) e = let n = ap number_of e in let m = no_answer refusal in absurd (omega arith)
 
-is_refused : (outcome : Outcome) → outcome_status outcome ≡ statuses.Refused → outcome ≡ Ok endings.Refused
+pub is_refused : (outcome : Outcome) → outcome_status outcome ≡ statuses.Refused → outcome ≡ Ok endings.Refused
 is_refused (Ok endings.Done) e = cc
 is_refused (Ok endings.Refused) e = refl
 is_refused (Err refusal) e = let n = ap number_of e in let m = no_answer refusal in absurd (omega arith)
@@ -185,6 +185,21 @@ is_document files words before now (Err refusals.Memory) h e = cc
 is_document files words before now (Err refusals.LinkFault) h e = cc
 is_document files words before now (Err (refusals.Example example)) h e = cc
 is_document files words before now (Err (refusals.Remote remote)) h e = cc
+
+-- a document that passes a limit
+pub is_limit : (files : Files) (words : List Word) (before now : ℕ) (outcome : Outcome) → IsFailure files words before now outcome → outcome_status outcome ≡ statuses.Limit → IsPast files words
+is_limit files words before now (Ok endings.Done) h e = cc
+is_limit files words before now (Ok endings.Refused) h e = cc
+is_limit files words before now (Err refusals.Words) h e = cc
+is_limit files words before now (Err (refusals.Document role fault)) h e = cc
+is_limit files words before now (Err (refusals.Limit role count)) h e = (role, count, cause_of files words before now (refusals.Limit role count) h (λ e. cc))
+is_limit files words before now (Err refusals.Answers) h e = absurd (cause_of files words before now refusals.Answers h (λ e. cc))
+is_limit files words before now (Err (refusals.ReadFault role)) h e = cc
+is_limit files words before now (Err refusals.WriteFault) h e = cc
+is_limit files words before now (Err refusals.Memory) h e = cc
+is_limit files words before now (Err refusals.LinkFault) h e = cc
+is_limit files words before now (Err (refusals.Example example)) h e = cc
+is_limit files words before now (Err (refusals.Remote remote)) h e = cc
 
 -- what `convert` writes
 no_learn : (files : Files) (words : List Word) (graph wanted : Word) (tables : _) → IsSomeConvert words → IsLearn words graph wanted tables → ⊥

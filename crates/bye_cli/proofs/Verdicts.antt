@@ -1,17 +1,19 @@
 -- A document's bytes have one verdict.
-use Rattle.std.proofs.Common.{◌≡◌, refl, ℕ, ◌<◌, ◌≤◌, List, length, Option, Some, None, Err, ◌⊎◌, inl, inr, ⊎_elim, sym, ◌∙◌, ap, subst, arith}
+use Rattle.std.proofs.Common.{◌≡◌, refl, ℕ, ◌<◌, ◌≤◌, List, length, Option, Some, None, Result, Ok, Err, ◌⊎◌, inl, inr, ⊎_elim, sym, ◌∙◌, ap, subst, arith}
 use Rattle.bye_io.specs.Files.{Lacks}
 use Rattle.bye_terms.proofs.Readings.{some_same}
 use Rattle.bye_ntriples.specs.Answers.{NtAnswer}
 use Rattle.bye_ntriples.specs.declared.fault.NtErr.TheVariants as graph_errors
 use Rattle.bye_ntriples.proofs.OneAnswer.{one_answer as one_graph}
-use Rattle.bye_table.specs.Tables.{TableValue}
-use Rattle.bye_pattern.proofs.TableTexts.{same_tables}
+use Rattle.bye_tsv.specs.OneAnswer.{TsvAnswer}
+use Rattle.bye_tsv.specs.declared.fault.TsvErr.TheVariants as tsv_errors
+use Rattle.bye_tsv.proofs.OneAnswer.{one_answer as one_tsv}
 use Rattle.bye_json.specs.Answers.{JsonAnswer}
 use Rattle.bye_json.specs.declared.json_err.JsonErr.TheVariants as json_errors
 use Rattle.bye_json.proofs.OneAnswer.{one_answer as one_json}
-use Rattle.bye_cli.specs.Documents.{Files, Document, Kind, OfGraph, OfTable, Reads, IsFirstRead, IsRead, Triples, Rows, graph_verdict, json_verdict, limit_of, most_rows, most_vars, Verdict, TooMany, Faulty, Good, IsVerdict, HasVerdict}
+use Rattle.bye_cli.specs.Documents.{Files, Document, Kind, OfGraph, OfTable, Reads, IsRead, bounds_of, graph_verdict, json_verdict, tsv_verdict, limit_of, most_rows, most_vars, Verdict, TooMany, IsVerdict, HasVerdict}
 use Rattle.bye_cli.specs.declared.table_form.TableForm.TheVariants.{Tsv, Json}
+use Rattle.bye_words.specs.declared.count.Count.TheVariants as counts
 
 -- two answers of which none is want of memory have one verdict, where they are one
 one_reading : {A : Type 0} (IsAnswer : A → Type 0) (verdict_of : A → Option Verdict) (memory : A) (v w : Verdict) → verdict_of memory ≡ None
@@ -22,21 +24,9 @@ one_reading IsAnswer verdict_of memory v w none one (a, is, e) (b, so, f) =
     missing : {X : Type 0} (a : _) (v : Verdict) → a ≡ memory → verdict_of a ≡ Some v → X
     missing a v k e = let c = sym none ∙ ap verdict_of (sym k) ∙ e in cc
 
-one_first : (bytes : List ℕ) (v w : Verdict) → IsFirstRead bytes v → IsFirstRead bytes w → v ≡ w
-one_first bytes (Good (Rows table)) (Good (Rows other)) h k = ap (λ (t : TableValue). Good (Rows t)) (same_tables bytes table other h k)
-one_first bytes (Good (Rows table)) (Good (Triples triples)) h k = absurd k
-one_first bytes (Good (Rows table)) (Faulty fault) h k = absurd (k.1 table h)
-one_first bytes (Good (Rows table)) (TooMany count) h k = absurd k
-one_first bytes (Good (Triples triples)) w h k = absurd h
-one_first bytes (Faulty fault) (Good (Rows table)) h k = absurd (h.1 table k)
-one_first bytes (Faulty fault) (Good (Triples triples)) h k = absurd k
-one_first bytes (Faulty fault) (Faulty other) h k = ap Faulty (h.0 ∙ sym k.0)
-one_first bytes (Faulty fault) (TooMany count) h k = absurd k
-one_first bytes (TooMany count) w h k = absurd h
-
 one_read : (kind : Kind) (bytes : List ℕ) (v w : Verdict) → IsRead kind bytes v → IsRead kind bytes w → v ≡ w
 one_read OfGraph bytes v w h k = one_reading (NtAnswer bytes) graph_verdict (Err graph_errors.Memory) v w refl (one_graph bytes) h k
-one_read (OfTable role Tsv) bytes v w h k = one_first bytes v w h k
+one_read (OfTable role Tsv) bytes v w h k = one_reading (TsvAnswer (bounds_of role) bytes) tsv_verdict (Err tsv_errors.Memory) v w refl (one_tsv (bounds_of role) bytes) h k
 one_read (OfTable role Json) bytes v w h k =
     one_reading (JsonAnswer bytes (most_vars role) (most_rows role)) json_verdict (Err json_errors.Memory) v w refl (one_json bytes (most_vars role) (most_rows role)) h k
 

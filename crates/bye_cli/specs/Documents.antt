@@ -5,7 +5,10 @@ use Rattle.bye_ntriples.specs.Answers.{NtAnswer}
 use Rattle.bye_ntriples.specs.declared.fault.NtErr.{NtErr}
 use Rattle.bye_ntriples.specs.declared.fault.NtErr.TheVariants as graph_errors
 use Rattle.bye_table.specs.Tables.{TableValue}
-use Rattle.bye_pattern.specs.Tables.{IsFirstTable}
+use Rattle.bye_tsv.specs.OneAnswer.{TsvAnswer}
+use Rattle.bye_tsv.specs.declared.fault.Bounds.{Bounds}
+use Rattle.bye_tsv.specs.declared.fault.TsvErr.{TsvErr}
+use Rattle.bye_tsv.specs.declared.fault.TsvErr.TheVariants as tsv_errors
 use Rattle.bye_json.specs.Answers.{JsonAnswer}
 use Rattle.bye_json.specs.declared.json_err.JsonErr.{JsonErr}
 use Rattle.bye_json.specs.declared.json_err.JsonErr.TheVariants as json_errors
@@ -74,6 +77,10 @@ abbrev pub most_rows : Role → ℕ
 most_rows roles.Table = 1048576
 most_rows _ = 10000
 
+-- both
+abbrev pub bounds_of : Role → Bounds
+bounds_of role = record { vars = most_vars role; rows = most_rows role }
+
 -- what a document says
 pub data Value : Type 0 where
   Triples : List Statement → Value
@@ -93,6 +100,17 @@ graph_verdict (Err (graph_errors.NotUtf8 place)) = Some (Faulty (faults.NotUtf8 
 graph_verdict (Err graph_errors.TooMany) = Some (TooMany counts.Triples)
 graph_verdict (Err graph_errors.Memory) = None
 
+-- the verdict on what is read as a table in TSV
+abbrev pub tsv_verdict : Result TableValue TsvErr → Option Verdict
+tsv_verdict (Ok table) = Some (Good (Rows table))
+tsv_verdict (Err (tsv_errors.NotUtf8 place)) = Some (Faulty (faults.NotUtf8 place))
+tsv_verdict (Err (tsv_errors.Header place)) = Some (Faulty (faults.Header place))
+tsv_verdict (Err (tsv_errors.Term place)) = Some (Faulty (faults.Term place))
+tsv_verdict (Err (tsv_errors.Fields line)) = Some (Faulty (faults.Fields line))
+tsv_verdict (Err tsv_errors.TooManyVars) = Some (TooMany counts.Variables)
+tsv_verdict (Err tsv_errors.TooManyRows) = Some (TooMany counts.Rows)
+tsv_verdict (Err tsv_errors.Memory) = None
+
 -- the verdict on what is read as a table in JSON
 abbrev pub json_verdict : Result TableValue JsonErr → Option Verdict
 json_verdict (Ok table) = Some (Good (Rows table))
@@ -105,13 +123,6 @@ json_verdict (Err json_errors.TooManyVars) = Some (TooMany counts.Variables)
 json_verdict (Err json_errors.TooManyRows) = Some (TooMany counts.Rows)
 json_verdict (Err json_errors.Memory) = None
 
--- the bytes are a table of the first form, or none
-abbrev pub IsFirstRead : List ℕ → Verdict → Type 0
-IsFirstRead bytes (Good (Rows table)) = IsFirstTable bytes table
-IsFirstRead bytes (Good (Triples triples)) = ⊥
-IsFirstRead bytes (Faulty fault) = (fault ≡ faults.NotFirstForm) × ((table : TableValue) → IsFirstTable bytes table → ⊥)
-IsFirstRead bytes (TooMany count) = ⊥
-
 -- some answer of a reader has this verdict
 abbrev pub Reads : {A : Type 0} → (A → Type 0) → (A → Option Verdict) → Verdict → Type 0
 Reads {A} IsAnswer verdict_of verdict = (answer : A) × IsAnswer answer × (verdict_of answer ≡ Some verdict)
@@ -119,7 +130,7 @@ Reads {A} IsAnswer verdict_of verdict = (answer : A) × IsAnswer answer × (verd
 -- the bytes are read so in the form of the document
 abbrev pub IsRead : Kind → List ℕ → Verdict → Type 0
 IsRead OfGraph bytes verdict = Reads (NtAnswer bytes) graph_verdict verdict
-IsRead (OfTable role Tsv) bytes verdict = IsFirstRead bytes verdict
+IsRead (OfTable role Tsv) bytes verdict = Reads (TsvAnswer (bounds_of role) bytes) tsv_verdict verdict
 IsRead (OfTable role Json) bytes verdict = Reads (JsonAnswer bytes (most_vars role) (most_rows role)) json_verdict verdict
 
 -- the bytes are more than the limit; or they are not, and are read so

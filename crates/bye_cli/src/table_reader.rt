@@ -4,14 +4,14 @@ ghost use Rattle.std.specs.Prelude.{◌≡◌, ◌≤◌, length, Err, IfOk, IfE
 ghost use Rattle.bye_words.specs.declared.role.Role.{Role};
 ghost use Rattle.bye_cli.specs.declared.table_form.TableForm.TheVariants as forms;
 ghost use Rattle.bye_cli.specs.Causes.{IsUnfit};
-ghost use Rattle.bye_cli.specs.Documents.{IsVerdict, OfTable, Rows, Good, json_verdict, limit_of, most_rows, most_vars};
+ghost use Rattle.bye_cli.specs.Documents.{IsVerdict, OfTable, Rows, Good, bounds_of, json_verdict, limit_of, most_rows, most_vars, tsv_verdict};
 ghost use Rattle.bye_cli.specs.Refusals.{verdict_refusal};
 
 use crate::reader::Reader;
 use crate::table_form::TableForm;
 use bye_json::{JsonErr, read_json};
-use bye_pattern::{TableErr, read_table};
 use bye_table::Table;
+use bye_tsv::{Bounds, TsvErr, read_tsv};
 use bye_words::{Count, Fault, Refusal, Role};
 use std::alloc::Global;
 
@@ -32,6 +32,16 @@ fn most_rows(role: Role) -> u32
     match role {
         Role::Table => 1_048_576,
         _ => 10_000,
+    }
+}
+
+/// The greatest numbers of a table in the role.
+fn bounds(role: Role) -> Bounds
+    ensures { result ≡ bounds_of role }
+{
+    Bounds {
+        vars: most_vars(role),
+        rows: most_rows(role),
     }
 }
 
@@ -63,16 +73,30 @@ fn json_table(alloc: Global, role: Role, bytes: &[u8]) -> Result<Table, Refusal>
     }
 }
 
-/// What the bytes say as a table in TSV, of the first form.
+/// The refusal of a table in TSV.
+fn no_tsv(role: Role, err: TsvErr) -> Refusal
+    ensures { result ≡ verdict_refusal role (tsv_verdict (Err err)) }
+{
+    match err {
+        TsvErr::NotUtf8(place) => Refusal::Document(role, Fault::NotUtf8(place)),
+        TsvErr::Header(place) => Refusal::Document(role, Fault::Header(place)),
+        TsvErr::Term(place) => Refusal::Document(role, Fault::Term(place)),
+        TsvErr::Fields(line) => Refusal::Document(role, Fault::Fields(line)),
+        TsvErr::TooManyVars => Refusal::Limit(role, Count::Variables),
+        TsvErr::TooManyRows => Refusal::Limit(role, Count::Rows),
+        TsvErr::Memory => Refusal::Memory,
+    }
+}
+
+/// What the bytes say as a table in TSV.
 fn tsv_table(alloc: Global, role: Role, bytes: &[u8]) -> Result<Table, Refusal>
     requires { length bytes.now ≤ limit_of (OfTable role forms.Tsv) }
     ensures good { IfOk result (λ table. IsVerdict (OfTable role forms.Tsv) bytes.now (Good (Rows table))) }
     ensures unfit { IfErr result (IsUnfit (OfTable role forms.Tsv) bytes.now) }
 {
-    match read_table(alloc, bytes) {
+    match read_tsv(alloc, bytes, bounds(role)) {
         Ok(table) => Ok(table),
-        Err(TableErr::NotFirstTable) => Err(Refusal::Document(role, Fault::NotFirstForm)),
-        Err(TableErr::Memory) => Err(Refusal::Memory),
+        Err(err) => Err(no_tsv(role, err)),
     }
 }
 

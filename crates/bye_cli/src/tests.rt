@@ -164,7 +164,7 @@ fn documents_and_words_decide(rt: HostRuntime) -> Result<(), Fail> {
             "x\n",
             Status::Document,
             "",
-            "sparqlbye: wanted: not of the first form\n",
+            "sparqlbye: wanted: fault at byte 0\n",
         ),
         (
             "no such table",
@@ -278,6 +278,8 @@ const COUNTED: &str =
 #[test]
 fn examples_have_cells_of_all_kinds(rt: HostRuntime) -> Result<(), Fail> {
     const JSON: &str = "learn --graph g --tables json --wanted w";
+    let many =
+        "?a0\t?a1\t?a2\t?a3\t?a4\t?a5\t?a6\t?a7\t?b0\t?b1\t?b2\t?b3\t?b4\t?b5\t?b6\t?b7\t?c0\t?c1\t?c2\t?c3\t?c4\t?c5\t?c6\t?c7\t?d0\t?d1\t?d2\t?d3\t?d4\t?d5\t?d6\t?d7\t?e0\n";
     for (name, line, graph, wanted, status, sent, told) in [
         (
             "results in JSON",
@@ -298,64 +300,73 @@ fn examples_have_cells_of_all_kinds(rt: HostRuntime) -> Result<(), Fail> {
             "",
         ),
         (
-            "a variable that no row binds",
-            JSON,
+            "lines as a spreadsheet ends them",
+            LEARN,
             GRAPH,
-            "{\"head\":{\"vars\":[\"y\",\"x\"]},\"results\":{\"bindings\":[{\"x\":{\"type\":\"uri\",\"value\":\"http://e/a\"}},{\"x\":{\"type\":\"uri\",\"value\":\"http://e/b\"}}]}}",
+            "?x\r\n<http://e/a>\r\n<http://e/b>",
+            Status::Done,
+            QUERY,
+            "",
+        ),
+        (
+            "a variable that no row binds",
+            LEARN,
+            GRAPH,
+            "?y\t?x\n\t<http://e/a>\n\t<http://e/b>\n",
             Status::Done,
             QUERY,
             "",
         ),
         (
             "a number",
-            JSON,
+            LEARN,
             "<http://e/a> <http://e/p> \"1\"^^<http://www.w3.org/2001/XMLSchema#integer> .\n",
-            "{\"head\":{\"vars\":[\"x\",\"n\"]},\"results\":{\"bindings\":[{\"x\":{\"type\":\"uri\",\"value\":\"http://e/a\"},\"n\":{\"type\":\"typed-literal\",\"datatype\":\"http://www.w3.org/2001/XMLSchema#integer\",\"value\":\"1\"}}]}}",
+            "?x\t?n\n<http://e/a>\t1\n",
             Status::Done,
             COUNTED,
             "",
         ),
         (
             "a blank node of the graph",
-            JSON,
+            LEARN,
             "_:a <http://e/type> <http://e/P> .\n",
-            "{\"head\":{\"vars\":[\"x\"]},\"results\":{\"bindings\":[{\"x\":{\"type\":\"bnode\",\"value\":\"a\"}}]}}",
+            "?x\n_:a\n",
             Status::Done,
             QUERY,
             "",
         ),
         (
             "rows that bind different variables",
-            JSON,
+            LEARN,
             GRAPH,
-            "{\"head\":{\"vars\":[\"x\",\"y\"]},\"results\":{\"bindings\":[{\"x\":{\"type\":\"uri\",\"value\":\"http://e/a\"},\"y\":{\"type\":\"uri\",\"value\":\"http://e/b\"}},{\"x\":{\"type\":\"uri\",\"value\":\"http://e/a\"},\"y\":{\"type\":\"uri\",\"value\":\"http://e/b\"}},{\"x\":{\"type\":\"uri\",\"value\":\"http://e/c\"}}]}}",
+            "?x\t?y\n<http://e/a>\t<http://e/b>\n<http://e/a>\t<http://e/b>\n<http://e/c>\t\n",
             Status::Refused,
             "domains 1 3 ?y\n",
             "",
         ),
         (
             "rows that bind none",
-            JSON,
+            LEARN,
             GRAPH,
-            "{\"head\":{\"vars\":[\"x\"]},\"results\":{\"bindings\":[{},{}]}}",
+            "?x\n\n\n",
             Status::Refused,
             "noroot\n",
             "",
         ),
         (
             "the second of two variables",
-            JSON,
+            LEARN,
             GRAPH,
-            "{\"head\":{\"vars\":[\"z\",\"x\",\"y\"]},\"results\":{\"bindings\":[{\"x\":{\"type\":\"uri\",\"value\":\"http://e/a\"},\"y\":{\"type\":\"uri\",\"value\":\"http://e/z\"}}]}}",
+            "?z\t?x\t?y\n\t<http://e/a>\t<http://e/z>\n",
             Status::Refused,
             "uncovered ?y\n",
             "",
         ),
         (
             "too many variables",
-            JSON,
+            LEARN,
             GRAPH,
-            "{\"head\":{\"vars\":[\"v0\",\"v1\",\"v2\",\"v3\",\"v4\",\"v5\",\"v6\",\"v7\",\"v8\",\"v9\",\"v10\",\"v11\",\"v12\",\"v13\",\"v14\",\"v15\",\"v16\",\"v17\",\"v18\",\"v19\",\"v20\",\"v21\",\"v22\",\"v23\",\"v24\",\"v25\",\"v26\",\"v27\",\"v28\",\"v29\",\"v30\",\"v31\",\"v32\"]},\"results\":{\"bindings\":[]}}",
+            many,
             Status::Limit,
             "",
             "sparqlbye: wanted: too many variables\n",
@@ -379,14 +390,21 @@ fn examples_have_cells_of_all_kinds(rt: HostRuntime) -> Result<(), Fail> {
 #[test]
 fn tables_are_converted(rt: HostRuntime) -> Result<(), Fail> {
     const TO_JSON: &str = "convert --table w --from tsv --to json";
-    const TO_TSV: &str = "convert --to tsv --from json --table w";
-    const TO_CSV: &str = "convert --table w --from json --to csv";
+    const TO_CSV: &str = "convert --table w --from tsv --to csv";
+    const FROM_JSON: &str = "convert --to tsv --from json --table w";
     for (line, table, status, sent, told) in [
         (
             TO_JSON,
-            WANTED,
+            "?x\n12\n'a'\r\n",
             Status::Done,
-            "{\"head\":{\"vars\":[\"x\"]},\"results\":{\"bindings\":[{\"x\":{\"type\":\"uri\",\"value\":\"http://e/a\"}},{\"x\":{\"type\":\"uri\",\"value\":\"http://e/b\"}}]}}",
+            "{\"head\":{\"vars\":[\"x\"]},\"results\":{\"bindings\":[{\"x\":{\"datatype\":\"http://www.w3.org/2001/XMLSchema#integer\",\"type\":\"literal\",\"value\":\"12\"}},{\"x\":{\"type\":\"literal\",\"value\":\"a\"}}]}}",
+            "",
+        ),
+        (
+            TO_JSON,
+            "?x\n\n",
+            Status::Done,
+            "{\"head\":{\"vars\":[\"x\"]},\"results\":{\"bindings\":[{}]}}",
             "",
         ),
         (
@@ -398,55 +416,69 @@ fn tables_are_converted(rt: HostRuntime) -> Result<(), Fail> {
         ),
         (
             TO_CSV,
-            "{\"results\":{\"bindings\":[{\"y\":{\"type\":\"uri\",\"value\":\"http://e/c\"},\"x\":{\"type\":\"literal\",\"value\":\"a,b\"}},{\"x\":{\"type\":\"literal\",\"value\":\"q\\\"r\",\"xml:lang\":\"en\"}}]},\"head\":{\"vars\":[\"x\",\"y\"]}}",
+            "?x\t?y\n\"a,b\"\t<http://e/c>\n\"q\\\"r\"@en\t\n",
             Status::Done,
             "x,y\r\n\"a,b\",http://e/c\r\n\"q\"\"r\",\r\n",
             "",
         ),
         (
-            TO_TSV,
-            "{\"head\":{\"vars\":[\"x\"]},\"results\":{\"ordered\":true,\"bindings\":[{\"x\":{\"type\":\"typed-literal\",\"value\":\"1\",\"datatype\":\"http://www.w3.org/2001/XMLSchema#integer\"}},{\"x\":{\"type\":\"literal\",\"value\":\"a\",\"xml:lang\":\"EN\"}},{}]}}",
+            FROM_JSON,
+            "{\"head\":{\"vars\":[\"x\"]},\"results\":{\"ordered\":true,\"bindings\":[{\"x\":{\"type\":\"typed-literal\",\"value\":\"1\",\"datatype\":\"http://www.w3.org/2001/XMLSchema#integer\"}},{\"x\":{\"type\":\"literal\",\"value\":\"a\",\"xml:lang\":\"EN\"}}]}}",
             Status::Done,
-            "?x\n\"1\"^^<http://www.w3.org/2001/XMLSchema#integer>\n\"a\"@EN\n\n",
+            "?x\n\"1\"^^<http://www.w3.org/2001/XMLSchema#integer>\n\"a\"@EN\n",
             "",
         ),
         (
             TO_JSON,
-            "?x\n\n",
+            "?x\t?y\n1\n",
             Status::Document,
             "",
-            "sparqlbye: table: not of the first form\n",
+            "sparqlbye: table: wrong number of fields in line 2\n",
         ),
         (
-            TO_TSV,
+            TO_JSON,
+            "?x\n5.\n",
+            Status::Document,
+            "",
+            "sparqlbye: table: fault at byte 5\n",
+        ),
+        (
+            TO_JSON,
+            "",
+            Status::Document,
+            "",
+            "sparqlbye: table: fault at byte 0\n",
+        ),
+        (
+            FROM_JSON,
             "{",
             Status::Document,
             "",
             "sparqlbye: table: not JSON\n",
         ),
         (
-            TO_TSV,
+            FROM_JSON,
             "{\"head\":{},\"boolean\":true}",
             Status::Document,
             "",
             "sparqlbye: table: no bindings\n",
         ),
         (
-            TO_TSV,
+            FROM_JSON,
             "{\"head\":{\"vars\":[\"x\",\"x\"]},\"results\":{\"bindings\":[]}}",
             Status::Document,
             "",
             "sparqlbye: table: bad variable 2\n",
         ),
         (
-            TO_TSV,
+            FROM_JSON,
             "{\"head\":{\"vars\":[\"x\"]},\"results\":{\"bindings\":[{\"y\":{\"type\":\"bnode\",\"value\":\"a\"}}]}}",
             Status::Document,
             "",
             "sparqlbye: table: unlisted variable in row 1\n",
         ),
         (
-            TO_TSV,
+            FROM_JSON,
             "{\"head\":{\"vars\":[\"x\"]},\"results\":{\"bindings\":[{\"x\":{\"type\":\"uri\",\"value\":\"a\"}}]}}",
             Status::Document,
             "",
@@ -571,7 +603,7 @@ fn faults_decide(rt: HostRuntime) -> Result<(), Fail> {
             "x",
             Status::Document,
             "",
-            "sparqlbye: wanted: not of the first form\n",
+            "sparqlbye: wanted: fault at byte 0\n",
         ),
         (
             LEARN,

@@ -7,8 +7,8 @@ use Rattle.bye_terms.proofs.Members.{all_in}
 use Rattle.bye_table.specs.Domains.{BindsEach, IsBefore, IsSeen, Wanted}
 use Rattle.bye_table.specs.DomainTrees.{IsDomainTree, IsFirstOfClass, domain, none}
 use Rattle.bye_table.specs.Mappings.{Binds, Mapping, Name, Pairs, row_mapping}
-use Rattle.bye_pattern.specs.Tables.{names_of}
-use Rattle.bye_pattern.proofs.RowMappings.{binds}
+use Rattle.bye_table.proofs.RowNames.{binds_names}
+use Rattle.bye_pattern.proofs.WorkedTerms.{names_of}
 use Rattle.bye_laws.specs.Completeness.{AreExamples}
 use Rattle.bye_laws.specs.Ordering.{IsSorted}
 use Rattle.bye_laws.specs.Strongest.{AreAround, AreRowsOf}
@@ -20,7 +20,7 @@ pub seen_names : (header : List Name) (rows : List Pairs) → AllByRecursion (λ
 seen_names header rows all v (m, there, b) =
     let r = in_map row_mapping rows m there in
     all_in (In header) (names_of r.0) v (all_in (λ row. AllByRecursion (In header) (names_of row)) rows r.0 all r.1)
-    ((binds r.0 v).0 (subst (λ (m : Mapping). Binds m v) (sym r.2) b))
+    ((binds_names r.0 v).0 (subst (λ (m : Mapping). Binds m v) (sym r.2) b))
 
 -- where every row binds a variable, its rows are all
 pub all_rows : (rows : List Mapping) (x : Name) → BindsEach rows x → AreRowsOf rows x rows

@@ -9,10 +9,6 @@ pub mod Reaching
 pub mod Covered
 pub mod Firsts
 pub mod Answered
-pub mod HeaderLines
-pub mod RowLines
-pub mod RowMappings
-pub mod TableTexts
 pub mod WorkedTerms
 pub mod WorkedAnswers
 pub mod WorkedGroups

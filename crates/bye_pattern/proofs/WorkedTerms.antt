@@ -1,5 +1,5 @@
 -- What the worked examples need of names, terms and rows.
-use Rattle.std.proofs.Common.{◌≡◌, refl, Bool, true, false, cond, List, [], ◌∷◌, Option, Some, None, ⊎_elim, sym, ◌∙◌, ap}
+use Rattle.std.proofs.Common.{◌≡◌, refl, Bool, true, false, cond, List, [], ◌∷◌, map, Option, Some, None, ⊎_elim, sym, ◌∙◌, ap}
 use Rattle.std.specs.Str.{bytes_eq}
 use Rattle.std.specs.List.{AllByRecursion, filter}
 use Rattle.std.proofs.lemmas.Slice.Eq.{bytes_eq-Decides}
@@ -9,14 +9,13 @@ use Rattle.bye_terms.specs.Members.{In}
 use Rattle.bye_terms.proofs.Tests.{not_both}
 use Rattle.bye_terms.proofs.Members.{all_in}
 use Rattle.bye_table.specs.Mappings.{Name, Pairs, Binds, Exactly, row_mapping, first_of, merge, Compatible}
+use Rattle.bye_table.proofs.RowNames.{binds_names}
 use Rattle.bye_pattern.specs.Patterns.{Pattern, Meets}
 use Rattle.bye_pattern.specs.Conditions.{same_term}
 use Rattle.bye_pattern.specs.Classes.{IsClassTriple}
 use Rattle.bye_pattern.specs.Candidates.{candidates}
 use Rattle.bye_pattern.specs.Meeting as test
-use Rattle.bye_pattern.specs.Tables.{names_of}
 use Rattle.bye_pattern.proofs.SameTerms.{same_self}
-use Rattle.bye_pattern.proofs.RowMappings.{binds}
 use Rattle.bye_pattern.proofs.Standing.{meets_candidate}
 use Rattle.bye_terms.proofs.Lists.{of_each, in_filtered}
 use Rattle.bye_pattern.proofs.Covered.{true_meets}
@@ -30,12 +29,16 @@ terms_differ s t e h = not_both _ (ap (same_term s) (sym h) ∙ same_self s) e
 pub values_differ : (s t : Term) → same_term s t ≡ false → ◌≡◌ {A = Option Term} (Some s) (Some t) → ⊥
 values_differ s t e h = let k : s ≡ t = cc in terms_differ s t e k
 
--- a row binds exactly its names
+-- the names that a row binds, in its order
+abbrev pub names_of : Pairs → List Name
+names_of row = map (λ e. e.0) row
+
+-- a row binds exactly these
 pub row_exactly : (row : Pairs) → Exactly (names_of row) (row_mapping row)
-row_exactly row v = ((binds row v).0, (binds row v).1)
+row_exactly row v = ((binds_names row v).0, (binds_names row v).1)
 
 pub only_name : (v : Name) (t : Term) (w : Name) → Binds (row_mapping ((v, t) ∷ [])) w → v ≡ w
-only_name v t w h = ⊎_elim (λ e. e) (λ k. absurd k) ((binds ((v, t) ∷ []) w).0 h)
+only_name v t w h = ⊎_elim (λ e. e) (λ k. absurd k) ((binds_names ((v, t) ∷ []) w).0 h)
 
 -- a row of one pair and a longer one that begins with it
 head_agrees : (b : Bool) (t : Term) (o : Option Term) (s u : Term) → cond b (Some t) None ≡ Some s → cond b (Some t) o ≡ Some u → s ≡ u

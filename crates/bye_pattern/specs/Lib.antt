@@ -21,8 +21,6 @@ pub mod WorkedWritten
 pub mod Common
 pub mod Covering
 pub mod Apart
-pub mod Reading
-pub mod Tables
 pub mod Learning
 pub mod Laws
 pub mod TrialOrder

@@ -13,7 +13,6 @@ ghost use Rattle.bye_pattern.specs.Laws.{
   DomainsByNumbers,
   ClassesAtOneNode,
 };
-ghost use Rattle.bye_pattern.specs.Tables.{OneTable};
 
 /// The answers of a query of one group are the mappings of exactly its variables that meet each of its triple
 /// patterns and conditions (SPARQL 1.1 Query, section 18.5).
@@ -31,11 +30,6 @@ pub fn common_patterns_fit()
 /// wanted rows have in common.
 pub fn none_fits_where_uncovered()
     ensures { NoneFitsWhereUncovered }
-{}
-
-/// No document is a table in two ways.
-pub fn one_table()
-    ensures { OneTable }
 {}
 
 /// A query of one group fits exactly where every wanted row meets it and no unwanted row does.

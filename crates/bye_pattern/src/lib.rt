@@ -3,12 +3,10 @@
 
 mod apart;
 mod candidates;
-mod cells;
 mod claim;
 mod class;
 mod cond;
 mod constant;
-mod header;
 mod kind;
 mod laws;
 mod learned;
@@ -21,8 +19,6 @@ mod printer;
 mod ranked;
 mod rule;
 mod slot;
-mod table;
-mod table_err;
 mod worked;
 
 pub use claim::Claim;
@@ -33,7 +29,7 @@ pub use kind::Kind;
 pub use laws::{
     answers_bind_the_tree, answers_of_one_group, bound_is_true, broken_or_designed,
     classes_at_one_node, common_patterns_fit, designed_at_once, domains_by_numbers,
-    dropping_keeps_answers, fitting_is_meeting, none_fits_where_uncovered, one_table,
+    dropping_keeps_answers, fitting_is_meeting, none_fits_where_uncovered,
 };
 pub use learned::{Conjunction, Learned};
 pub use learner::learn;
@@ -43,8 +39,6 @@ pub use pattern::TriplePattern;
 pub use printer::write_conjunction;
 pub use rule::Rule;
 pub use slot::Slot;
-pub use table::read_table;
-pub use table_err::TableErr;
 pub use worked::{
     blocks_after_optionals, claims_of_admitted, claims_of_domains, claims_of_extension,
     claims_of_fork, claims_of_no_root, claims_of_uncovered, conditions_are_tried_first,

@@ -40,7 +40,7 @@ use Rattle.bye_tsv.proofs.FreshNames as name_list
 no_rows : (d : DocAt) (p : Place) → HasNoRows d → HasNoRows (placed d p)
 no_rows d p g = record { rows = g.rows; row = g.row; later = g.later }
 
-good_same : (p : Place) (d : DocAt) → GoodAt p d → GoodAt p (placed d Begin)
+pub good_same : (p : Place) (d : DocAt) → GoodAt p d → GoodAt p (placed d Begin)
 good_same Start d g = (no_rows d Begin g.0, g.1)
 good_same Mark d g = no_rows d Begin g
 good_same (InName n) d g = (no_rows d Begin g.0, g.1)

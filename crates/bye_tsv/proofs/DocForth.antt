@@ -75,7 +75,7 @@ begin_forth d c t table (v ∷ vs) end rest g none names e ends rows p =
     )
 
 -- a name
-name_apart : (n m : NameAt) (c : ℕ) → name.step n c ≡ Some m → after_name c ≡ None
+pub name_apart : (n m : NameAt) (c : ℕ) → name.step n c ≡ Some m → after_name c ≡ None
 name_apart name_at.Start m c e = pick_of _ _ _ _ e (λ b k. apart is_name_start b refl refl refl) (λ k. none_some k)
   where
     apart : (p : ℕ → Bool) → p c ≡ true → p 9 ≡ false → p 10 ≡ false → p 13 ≡ false → after_name c ≡ None
@@ -144,7 +144,7 @@ name_forth d n c t table (x ∷ own) h g k p =
     )
 
 -- a field
-border : (c : ℕ) → is_border c ≡ true → IsBorder c
+pub border : (c : ℕ) → is_border c ≡ true → IsBorder c
 border c e = go (c == 9) (c == 10) (c == 13) refl refl refl e
   where
     go : (x y z : Bool) → (c == 9) ≡ x → (c == 10) ≡ y → (c == 13) ≡ z → (x || (y || z)) ≡ true → IsBorder c

@@ -16,3 +16,13 @@ pub mod Encoded
 pub mod Added
 pub mod CsvText
 pub mod ReadBack
+pub mod Fronts
+pub mod Tracking
+pub mod Passing
+pub mod Faults
+pub mod Growing
+pub mod Refusals
+pub mod Feeds
+pub mod ReadingLaws
+pub mod Stopped
+pub mod OneAnswer

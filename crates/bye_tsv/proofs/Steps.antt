@@ -4,7 +4,7 @@ use Rattle.std.specs.Str.{encode_utf8_all}
 use Rattle.bye_terms.specs.declared.term.Term.{Term}
 use Rattle.bye_lex.proofs.Branches.{heads, when}
 use Rattle.bye_table.specs.Mappings.{Name}
-use Rattle.bye_tsv.specs.DocSteps.{DocAt, cell_ends, next_field, step, table_of, exceeded, Walked, Went, Stopped, Many, counted, onward, walk, CannotAdvance, CannotWalk, IsFaultAt, IsPlaceBefore}
+use Rattle.bye_tsv.specs.DocSteps.{DocAt, cell_ends, next_field, step, passed, Walked, Went, Stopped, Many, counted, onward, walk, CannotAdvance, CannotWalk, IsFaultAt, IsPlaceBefore}
 use Rattle.bye_tsv.specs.declared.fault.Bounds.{Bounds}
 use Rattle.bye_tsv.specs.declared.fault.TsvErr.{TsvErr}
 use Rattle.bye_tsv.specs.declared.fault.TsvErr.TheVariants as faults
@@ -41,7 +41,7 @@ module _ (bounds : Bounds) (d : DocAt) (after : List ℕ) (c here total : ℕ) (
       subst (CannotWalk total e) (sym is)
       (⊎_elim (λ m. inl m) (λ f. let r : IsFaultAt total d (c ∷ after) e = record { c = c; after = after; parts = refl; here = here; at = at; is = f } in inr r) k)
   cannot_on (Some n) s k =
-      let is : walk bounds d (c ∷ after) ≡ counted (walk bounds n after) (exceeded bounds (table_of n)) = ap (onward bounds d (c ∷ after) (λ n. walk bounds n after)) s in
+      let is : walk bounds d (c ∷ after) ≡ counted (walk bounds n after) (passed bounds n) = ap (onward bounds d (c ∷ after) (λ n. walk bounds n after)) s in
       ⊎_elim (λ m. no_memory total e (walk bounds d (c ∷ after)) m)
       (λ f. subst (CannotWalk total e) (sym (is ∙ ap (counted (walk bounds n after)) f)) (inr refl)) k
 

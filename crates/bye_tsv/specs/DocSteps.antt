@@ -1,5 +1,5 @@
 -- The machine of documents: the variables and rows that were read, and how far the present line was read.
-use Rattle.std.specs.Prelude.{◌≡◌, ℕ, ◌+◌, Bool, true, false, cond, nat_lt, ◌==◌, ◌||◌, List, [], ◌∷◌, ◌++◌, length, Option, Some, None, option_map, ◌⊎◌}
+use Rattle.std.specs.Prelude.{◌≡◌, ℕ, ◌+◌, ◌-◌, Bool, true, false, cond, nat_lt, ◌==◌, ◌||◌, List, [], ◌∷◌, ◌++◌, length, Option, Some, None, option_map, ◌⊎◌}
 use Rattle.std.specs.List.{AllByRecursion}
 use Rattle.std.specs.Str.{encode_utf8_all}
 use Rattle.bye_terms.specs.Members.{EachOnce}
@@ -166,9 +166,25 @@ place_fault d border place Return = faults.Term place
 abbrev pub fault : DocAt → Bool → ℕ → TsvErr
 fault d border place = place_fault d border place d.at
 
--- a count of a table that passes its bound
-abbrev pub exceeded : Bounds → TableValue → Option TsvErr
-exceeded bounds table = cond (nat_lt bounds.vars (length table.vars)) (Some faults.TooManyVars) (cond (nat_lt bounds.rows (length table.rows)) (Some faults.TooManyRows) None)
+-- the names that are complete: one before a CR is not, until its LF comes
+abbrev pub complete_at : ℕ → Place → ℕ
+complete_at n Start = n
+complete_at n Mark = n
+complete_at n (InName name) = n
+complete_at n HeaderReturn = n - 1
+complete_at n Begin = n
+complete_at n (Field f) = n
+complete_at n Return = n
+
+abbrev pub complete : DocAt → ℕ
+complete d = complete_at (length d.vars) d.at
+
+-- the count, of variables or of rows, that passes its bound
+abbrev pub exceeded : Bounds → ℕ → ℕ → Option TsvErr
+exceeded bounds vars rows = cond (nat_lt bounds.vars vars) (Some faults.TooManyVars) (cond (nat_lt bounds.rows rows) (Some faults.TooManyRows) None)
+
+abbrev pub passed : Bounds → DocAt → Option TsvErr
+passed bounds d = exceeded bounds (complete d) (length d.rows)
 
 -- what reading a text comes to
 pub data Walked : Type 0 where
@@ -182,7 +198,7 @@ counted went (Some fault) = Many fault
 
 abbrev pub onward : Bounds → DocAt → List ℕ → (DocAt → Walked) → Option DocAt → Walked
 onward bounds d rest go None = Stopped d rest
-onward bounds d rest go (Some n) = counted (go n) (exceeded bounds (table_of n))
+onward bounds d rest go (Some n) = counted (go n) (passed bounds n)
 
 abbrev pub walk : Bounds → DocAt → List ℕ → Walked
 walk bounds d [] = Went d
@@ -198,10 +214,20 @@ abbrev pub Ends : Bool → TableValue → Option TableValue → Type 0
 Ends true t o = o ≡ Some t
 Ends false t o = o ≡ None
 
+-- why a table is not given: the document did not end so, or a count
+abbrev pub IsNotGiven : Bounds → Bool → TableValue → TsvErr → TsvErr → Type 0
+IsNotGiven bounds true t other e = exceeded bounds (length t.vars) (length t.rows) ≡ Some e
+IsNotGiven bounds false t other e = e ≡ other
+
+-- why a document is not read to its end: memory, no table, or a count
+abbrev pub CannotFinish : Bounds → DocAt → ℕ → Option TableValue → TsvErr → Type 0
+CannotFinish bounds d place None e = (e ≡ faults.Memory) ⊎ (e ≡ fault d true place)
+CannotFinish bounds d place (Some t) e = (e ≡ faults.Memory) ⊎ (exceeded bounds (length t.vars) (length t.rows) ≡ Some e)
+
 -- why a character was not taken: memory, no step, or a count
 abbrev pub CannotAdvance : Bounds → DocAt → ℕ → ℕ → Option DocAt → TsvErr → Type 0
 CannotAdvance bounds d c here None e = (e ≡ faults.Memory) ⊎ (e ≡ fault d (is_border c) here)
-CannotAdvance bounds d c here (Some n) e = (e ≡ faults.Memory) ⊎ (exceeded bounds (table_of n) ≡ Some e)
+CannotAdvance bounds d c here (Some n) e = (e ≡ faults.Memory) ⊎ (passed bounds n ≡ Some e)
 
 -- the place before the rest, in a text that ends at so many bytes
 abbrev pub IsPlaceBefore : ℕ → List ℕ → ℕ → Type 0

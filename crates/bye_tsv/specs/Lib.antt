@@ -7,3 +7,9 @@ pub mod Written
 pub mod WrittenFields
 pub mod Records
 pub mod ReadBack
+pub mod Answers
+pub mod Reading
+pub mod Feeding
+pub mod Readers
+pub mod ReadingLaws
+pub mod OneAnswer

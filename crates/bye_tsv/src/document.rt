@@ -4,11 +4,11 @@ ghost use Rattle.bye_lex.specs.NameSteps as name_spec;
 ghost use Rattle.bye_table.specs.Mappings.{NoRepeat, is_in};
 ghost use Rattle.bye_table.specs.Tables.{IsTable};
 ghost use Rattle.bye_tsv.specs.DocSteps as spec;
-ghost use Rattle.bye_tsv.specs.DocSteps.{CannotAdvance, CannotWalk, Ends, IsSound, Moves, Went, exceeded, table_of, walk};
+ghost use Rattle.bye_tsv.specs.DocSteps.{CannotAdvance, CannotFinish, CannotWalk, Ends, IsNotGiven, IsSound, Moves, Went, table_of, walk};
 ghost use Rattle.bye_tsv.specs.Documents.{bound};
 ghost use Rattle.bye_tsv.specs.FieldSteps as field_spec;
 ghost use Rattle.bye_tsv.specs.declared.place.Place.TheVariants as places;
-ghost use Rattle.std.specs.Prelude.{◌≡◌, ◌≤◌, None, ◌++◌, ◌+◌, ◌<◌, ◌^◌, ◌∷◌, [], Some, MatchOption, IfOk, IfErr, IfNone, OnOk, option_map, length};
+ghost use Rattle.std.specs.Prelude.{◌≡◌, true, ◌≤◌, None, ◌++◌, ◌+◌, ◌<◌, ◌^◌, ◌∷◌, [], Some, MatchOption, IfOk, IfErr, IfNone, OnOk, option_map, length};
 ghost use Rattle.std.specs.Str.{encode_utf8_all};
 
 use crate::fault::{Bounds, TsvErr};
@@ -65,6 +65,20 @@ fn bind(
         }
         None => Ok(()),
     }
+}
+
+/// Refuses more variables or rows than are allowed.
+fn check_counts(bounds: Bounds, vars: usize, rows: usize) -> Result<(), TsvErr>
+    ensures ok { OnOk result (spec.exceeded bounds vars rows ≡ None) }
+    ensures err { IfErr result (λ e. spec.exceeded bounds vars rows ≡ Some e) }
+{
+    if vars as u64 > bounds.vars as u64 {
+        return Err(TsvErr::TooManyVars);
+    }
+    if rows as u64 > bounds.rows as u64 {
+        return Err(TsvErr::TooManyRows);
+    }
+    Ok(())
 }
 
 impl Document {
@@ -281,7 +295,7 @@ impl Document {
     }
 
     /// The fault where no document goes on: at a TAB or a line's end, or at another place.
-    pub fn fault(&self, border: bool, here: usize) -> TsvErr
+    fn fault(&self, border: bool, here: usize) -> TsvErr
         ensures { result ≡ spec.fault self.now border here }
     {
         match &self.at {
@@ -294,25 +308,29 @@ impl Document {
         }
     }
 
-    /// Refuses more variables or rows than are allowed.
-    pub fn check(&self, bounds: Bounds) -> Result<(), TsvErr>
-        ensures ok { OnOk result (exceeded bounds (table_of self.now) ≡ None) }
-        ensures err { IfErr result (λ e. exceeded bounds (table_of self.now) ≡ Some e) }
+    /// How many names are complete: one before a CR is not, until its LF comes.
+    fn complete(&self) -> usize
+        ensures { result ≡ spec.complete self.now }
     {
-        if self.vars.len() as u64 > bounds.vars as u64 {
-            return Err(TsvErr::TooManyVars);
+        match &self.at {
+            Place::HeaderReturn => self.vars.len().saturating_sub(1),
+            _ => self.vars.len(),
         }
-        if self.rows.len() as u64 > bounds.rows as u64 {
-            return Err(TsvErr::TooManyRows);
-        }
-        Ok(())
+    }
+
+    /// Refuses more names or rows than are allowed, of those that are complete.
+    fn check(&self, bounds: Bounds) -> Result<(), TsvErr>
+        ensures ok { OnOk result (spec.passed bounds self.now ≡ None) }
+        ensures err { IfErr result (λ e. spec.passed bounds self.now ≡ Some e) }
+    {
+        check_counts(bounds, self.complete(), self.rows.len())
     }
 
     /// Takes one more character, which stands at the place `here`. After a refusal the document is spoiled.
     #[tactic(auto, using(crate::proofs::Sound::sound_step))]
     fn advance(&mut self, alloc: Global, bounds: Bounds, c: char, here: usize) -> Result<(), TsvErr>
         requires { IsSound self.old }
-        ensures ok { OnOk result ((spec.step self.old c ≡ Some self.new) × (exceeded bounds (table_of self.new) ≡ None)) }
+        ensures ok { OnOk result ((spec.step self.old c ≡ Some self.new) × (spec.passed bounds self.new ≡ None)) }
         ensures sound { OnOk result (IsSound self.new) }
         ensures err { IfErr result (CannotAdvance bounds self.old c here (spec.step self.old c)) }
     {
@@ -347,7 +365,7 @@ impl Document {
     }
 
     /// Ends the document. False where none ends there; then the document is spoiled.
-    pub fn end(&mut self, alloc: Global) -> Result<bool, Memory>
+    fn end(&mut self, alloc: Global) -> Result<bool, Memory>
         requires { IsSound self.old }
         ensures { IfOk result (λ ended. Ends ended (table_of self.new) (spec.final self.old)) }
     {
@@ -359,11 +377,37 @@ impl Document {
         }
     }
 
-    /// The table of the variables and the rows that are complete.
-    pub fn into_table(self) -> Table
+    /// The table of the variables and the rows that are complete, which are no more than the bounds.
+    fn into_table(self, bounds: Bounds) -> Result<Table, TsvErr>
         requires { IsTable (table_of self) }
-        ensures { result ≡ table_of self }
+        ensures ok { IfOk result (λ t. (t ≡ table_of self) × (spec.exceeded bounds (length self.vars) (length self.rows) ≡ None)) }
+        ensures err { IfErr result (λ e. spec.exceeded bounds (length self.vars) (length self.rows) ≡ Some e) }
     {
-        Table::of_rows(self.vars, self.rows)
+        check_counts(bounds, self.vars.len(), self.rows.len())?;
+        Ok(Table::of_rows(self.vars, self.rows))
+    }
+
+    /// The table, where the document is ended, and else the fault.
+    fn give(self, bounds: Bounds, ended: bool, fault: TsvErr) -> Result<Table, TsvErr>
+        requires { ended ≡ true → IsTable (table_of self) }
+        ensures ok { IfOk result (λ t. (ended ≡ true) × (t ≡ table_of self) × (spec.exceeded bounds (length self.vars) (length self.rows) ≡ None)) }
+        ensures err { IfErr result (IsNotGiven bounds ended (table_of self) fault) }
+    {
+        if ended {
+            self.into_table(bounds)
+        } else {
+            Err(fault)
+        }
+    }
+
+    /// The table of the document that ends at this place.
+    pub fn finish(mut self, alloc: Global, bounds: Bounds, place: usize) -> Result<Table, TsvErr>
+        requires { IsSound self }
+        ensures ok { IfOk result (λ t. (spec.final self ≡ Some t) × (spec.exceeded bounds (length t.vars) (length t.rows) ≡ None)) }
+        ensures err { IfErr result (CannotFinish bounds self place (spec.final self)) }
+    {
+        let fault = self.fault(true, place);
+        let ended = self.end(alloc)?;
+        self.give(bounds, ended, fault)
     }
 }

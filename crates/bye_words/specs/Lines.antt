@@ -67,7 +67,6 @@ fault_text (faults.Broken rule path) = rule_text rule ++ (codes " at node " ++ n
 fault_text faults.Projected = codes "variables left out without DISTINCT"
 fault_text faults.Version = codes "unknown version"
 fault_text (faults.Line line) = codes "fault in line " ++ decimal line
-fault_text faults.NotFirstForm = codes "not of the first form"
 
 -- what is wrong with the examples
 abbrev pub example_text : Example → List ℕ

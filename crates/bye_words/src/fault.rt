@@ -42,8 +42,6 @@ pub enum Fault {
     Version,
     /// This line of a certificate is wrong.
     Line(u64),
-    /// It is no table of the first form.
-    NotFirstForm,
 }
 
 impl Fault {
@@ -82,7 +80,6 @@ impl Fault {
             Fault::Projected => { Told::new("variables left out without DISTINCT", More::Nothing) }
             Fault::Version => Told::new("unknown version", More::Nothing),
             Fault::Line(line) => Told::new("fault in line ", More::Number(*line)),
-            Fault::NotFirstForm => Told::new("not of the first form", More::Nothing),
         }
     }
 }

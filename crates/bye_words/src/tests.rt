@@ -266,10 +266,6 @@ fn each_refusal_has_its_line(rt: HostRuntime) -> Result<(), Fail> {
             "certificate: fault in line 3",
         ),
         (
-            Refusal::Document(Role::Wanted, Fault::NotFirstForm),
-            "wanted: not of the first form",
-        ),
-        (
             Refusal::Limit(Role::Graph, Count::Bytes),
             "graph: too many bytes",
         ),

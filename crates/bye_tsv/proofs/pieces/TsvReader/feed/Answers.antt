@@ -1,0 +1,14 @@
+use Rattle.std.proofs.Common.{sym, ◌∙◌, ap, subst}
+use Rattle.bye_tsv.specs.Feeding.{Came}
+use Rattle.bye_tsv.specs.Readers.{ReaderAt}
+use Rattle.bye_tsv.specs.declared.pieces.State.{State}
+use Rattle.bye_tsv.proofs.Feeds.{refusal_on}
+use Rattle.bye_tsv.proofs.pieces.TsvReader.feed.Goals as goal
+
+pub returns-in-Refused-clause-came : goal.returns-in-Refused-clause-came
+returns-in-Refused-clause-came c bytes h =
+    refusal_on c.args.self.now.bounds bytes c.args.piece.now c.in-Refused.fault (subst (λ (s : State). Came c.args.self.now.bounds bytes s) (ap (λ (r : ReaderAt). r.state) (sym c.self.view_is) ∙ c.in-Refused.is) h)
+
+pub returns-in-Refused-clause-err : goal.returns-in-Refused-clause-err
+returns-in-Refused-clause-err c bytes h =
+    refusal_on c.args.self.now.bounds bytes c.args.piece.now c.in-Refused.fault (subst (λ (s : State). Came c.args.self.now.bounds bytes s) (ap (λ (r : ReaderAt). r.state) (sym c.self.view_is) ∙ c.in-Refused.is) h)
