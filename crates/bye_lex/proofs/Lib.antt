@@ -1,10 +1,12 @@
 pub mod Branches
+pub mod Runs
 pub mod Scans
 pub mod Machines
 pub mod Embedding
 pub mod Numbers
 pub mod Longer
 pub mod Growing
+pub mod Kept
 pub mod EscapeExact
 pub mod Places
 pub mod Answering
@@ -26,6 +28,8 @@ pub mod OneAnswer
 pub mod ReadingBack
 pub mod OneTerm
 pub mod Utf8Laws
+pub mod Fronts
+pub mod Stopped
 pub mod LabelParts
 pub mod Encodings
 pub mod Beginnings

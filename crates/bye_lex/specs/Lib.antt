@@ -9,7 +9,10 @@ pub mod LabelSteps
 pub mod TagSteps
 pub mod NameSteps
 pub mod Machines
+pub mod Kept
 pub mod Running
+pub mod Runs
+pub mod Wide
 pub mod Embedding
 pub mod Stopping
 pub mod EscapeSteps

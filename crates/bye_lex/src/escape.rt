@@ -1,6 +1,7 @@
 //! Escapes of characters by their numbers (RDF 1.1 N-Triples, section 7, UCHAR).
 
 ghost use Rattle.bye_lex.specs.EscapeSteps as spec;
+ghost use Rattle.bye_lex.specs.Kept.{escape_kept};
 ghost use Rattle.std.specs.Char.{digit_value};
 ghost use Rattle.std.specs.Prelude.{◌≡◌, ◌<◌, true, IfSome, MatchOption};
 
@@ -109,6 +110,16 @@ impl EscapeAt {
             'U' => Some(EscapeAt { left: 7, number: 0 }),
             _ => None,
         }
+    }
+
+    /// How many characters of it were read at least, with its backslash and its mark.
+    pub fn kept(self) -> usize
+        ensures { result ≡ escape_kept self }
+    {
+        if self.left > 3 {
+            return usize::from(9u8.saturating_sub(self.left));
+        }
+        usize::from(5 - self.left)
     }
 
     /// One character more, and None where it is no digit with which the escape may stand there.

@@ -10,6 +10,7 @@ ghost use Rattle.std.specs.Str.{IsUtf8};
 use crate::escape::{EscapeAt, EscapeStep, Home};
 use crate::fault::LexErr;
 use crate::machine::{Machine, read_token};
+use crate::measure::size;
 use crate::place::cursor_at;
 use crate::scheme::Scheme;
 use crate::stepped::Stepped;
@@ -106,6 +107,7 @@ fn in_escape(at: EscapeAt, iri: Iri, c: char, style: Style) -> Result<Stepped<Ir
 
 impl Machine for IriAt {
     ghost use Rattle.bye_lex.specs.IriSteps as spec;
+    ghost use Rattle.bye_lex.specs.Kept.{iri_kept};
 
     type Token = Iri;
 
@@ -114,6 +116,8 @@ impl Machine for IriAt {
     ghost whole = { spec.final };
 
     ghost longest = { spec.final };
+
+    ghost kept = { iri_kept };
 
     #[tactic(auto, using(crate::proofs::Growing::iri_grown))]
     fn step(self, alloc: Global, c: char, style: Style) -> Result<Stepped<IriAt>, Memory> {
@@ -136,6 +140,17 @@ impl Machine for IriAt {
         match self {
             IriAt::Done(iri) => Some(iri),
             _ => None,
+        }
+    }
+
+    fn kept(&self) -> usize {
+        match self {
+            IriAt::Start | IriAt::Opened => 0,
+            IriAt::Scheme(scheme) => size(scheme.text()),
+            IriAt::Body(iri) => size(iri.text()),
+            IriAt::Backslash(iri) => size(iri.text()) + 1,
+            IriAt::Escape(at, iri) => size(iri.text()) + at.kept(),
+            IriAt::Done(iri) => size(iri.text()),
         }
     }
 }

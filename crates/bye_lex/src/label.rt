@@ -10,6 +10,7 @@ ghost use Rattle.std.specs.Str.{IsUtf8};
 use crate::dots::Dots;
 use crate::fault::LexErr;
 use crate::machine::{Machine, read_token};
+use crate::measure::size;
 use crate::place::cursor_at;
 use crate::stepped::Stepped;
 use crate::style::Style;
@@ -113,6 +114,7 @@ impl LabelAt {
 
 impl Machine for LabelAt {
     ghost use Rattle.bye_lex.specs.LabelSteps as spec;
+    ghost use Rattle.bye_lex.specs.Kept.{label_kept};
 
     type Token = Label;
 
@@ -121,6 +123,8 @@ impl Machine for LabelAt {
     ghost whole = { spec.final };
 
     ghost longest = { spec.longest };
+
+    ghost kept = { label_kept };
 
     #[tactic(auto, using(crate::proofs::Growing::label_grown))]
     fn step(self, alloc: Global, c: char, _style: Style) -> Result<Stepped<LabelAt>, Memory> {
@@ -142,6 +146,14 @@ impl Machine for LabelAt {
             LabelAt::In(label) => Some(label),
             LabelAt::Dotted(label, _) => Some(label),
             _ => None,
+        }
+    }
+
+    fn kept(&self) -> usize {
+        match self {
+            LabelAt::Start | LabelAt::Underscore | LabelAt::Colon => 0,
+            LabelAt::In(label) => size(label.text()),
+            LabelAt::Dotted(label, dots) => size(label.text()) + size(dots.text()),
         }
     }
 }

@@ -2,6 +2,7 @@
 //! variables; and the written spelling of terms.
 #![tactic(auto)]
 
+mod class;
 mod dots;
 mod escape;
 mod fault;
@@ -9,9 +10,11 @@ mod iri;
 mod label;
 mod laws;
 mod machine;
+mod measure;
 mod name;
 mod place;
 mod quoting;
+mod run;
 mod scheme;
 mod stepped;
 mod string;
@@ -21,6 +24,7 @@ mod tag;
 mod utf8;
 mod write;
 
+pub use class::{Class, InIri, InString};
 pub use dots::Dots;
 pub use escape::{EscapeAt, EscapeStep, Home};
 pub use fault::LexErr;
@@ -28,8 +32,10 @@ pub use iri::{IriAt, iri_at};
 pub use label::{LabelAt, label_at};
 pub use laws::{one_answer, one_term, reads_back};
 pub use machine::{Machine, read_token};
+pub use measure::size;
 pub use name::{NameAt, name_at};
 pub use quoting::{Quote, Quoting};
+pub use run::cut_run;
 pub use scheme::Scheme;
 pub use stepped::Stepped;
 pub use string::{StringAt, string_at};

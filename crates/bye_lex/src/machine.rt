@@ -3,7 +3,7 @@
 ghost use Rattle.bye_lex.specs.Machines.{best_of, IfOn, later, stepped};
 ghost use Rattle.bye_lex.specs.Scanning.{Gives, scan};
 ghost use Rattle.bye_lex.specs.declared.style.Style.{Style as Rules};
-ghost use Rattle.std.specs.Prelude.{◌≡◌, ◌≤◌, ℕ, Option, Some, None, Ok, Err, IfOk, MatchOption, is_some, length};
+ghost use Rattle.std.specs.Prelude.{◌≡◌, ◌≤◌, ◌<◌, ◌^◌, ℕ, Option, Some, None, Ok, Err, IfOk, MatchOption, is_some, length};
 ghost use Rattle.std.specs.Str.{encode_utf8_all};
 
 use crate::fault::LexErr;
@@ -26,6 +26,9 @@ pub trait Machine: Sized + Drop {
     /// What the longest token at its front stands for.
     ghost longest: { Self → Option Self.Token };
 
+    /// How much of the text that was read the state keeps, in bytes of UTF-8.
+    ghost kept: { Self → ℕ };
+
     /// Takes one more character.
     fn step(self, alloc: Global, c: char, style: Style) -> Result<Stepped<Self>, Memory>
         ensures next { IfOk result (λ s. s ≡ stepped self (next style self c)) }
@@ -38,6 +41,11 @@ pub trait Machine: Sized + Drop {
     /// The longest token at the front of what was read.
     fn into_longest(self, alloc: Global) -> Option<Self::Token>
         ensures { result ≡ longest self };
+
+    /// How many bytes of what was read it keeps.
+    fn kept(&self) -> usize
+        requires room { kept self.now < 2 ^ 64 }
+        ensures { result ≡ kept self.now };
 }
 
 /// The longest token and the place after it, or else the fault.

@@ -9,6 +9,7 @@ ghost use Rattle.std.specs.Str.{IsUtf8};
 
 use crate::fault::LexErr;
 use crate::machine::{Machine, read_token};
+use crate::measure::size;
 use crate::place::cursor_at;
 use crate::stepped::Stepped;
 use crate::style::Style;
@@ -54,6 +55,7 @@ fn in_name(name: Var, c: char) -> Result<Stepped<NameAt>, Memory>
 
 impl Machine for NameAt {
     ghost use Rattle.bye_lex.specs.NameSteps as spec;
+    ghost use Rattle.bye_lex.specs.Kept.{name_kept};
 
     type Token = Var;
 
@@ -62,6 +64,8 @@ impl Machine for NameAt {
     ghost whole = { spec.final };
 
     ghost longest = { spec.final };
+
+    ghost kept = { name_kept };
 
     #[tactic(auto, using(crate::proofs::Growing::name_grown))]
     fn step(self, alloc: Global, c: char, _style: Style) -> Result<Stepped<NameAt>, Memory> {
@@ -79,6 +83,13 @@ impl Machine for NameAt {
         match self {
             NameAt::In(name) => Some(name),
             NameAt::Start => None,
+        }
+    }
+
+    fn kept(&self) -> usize {
+        match self {
+            NameAt::Start => 0,
+            NameAt::In(name) => size(name.name()),
         }
     }
 }

@@ -42,6 +42,13 @@ impl Scheme {
         Ok(Scheme { text })
     }
 
+    /// The scheme.
+    pub fn text(&self) -> &Text
+        ensures { result.now ≡ self.now }
+    {
+        &self.text
+    }
+
     /// The IRI of the scheme and a colon.
     #[tactic(auto, using(crate::proofs::Longer::scheme_iri))]
     pub fn into_iri(self) -> Result<Iri, Memory>

@@ -10,6 +10,7 @@ ghost use Rattle.std.specs.Str.{IsUtf8};
 use crate::escape::{EscapeAt, EscapeStep, Home};
 use crate::fault::LexErr;
 use crate::machine::{Machine, read_token};
+use crate::measure::size;
 use crate::place::cursor_at;
 use crate::quoting::{Quote, Quoting};
 use crate::stepped::Stepped;
@@ -200,6 +201,7 @@ fn empty_before(alloc: Global, quoting: Quoting) -> Option<Text>
 
 impl Machine for StringAt {
     ghost use Rattle.bye_lex.specs.StringSteps as spec;
+    ghost use Rattle.bye_lex.specs.Kept.{string_kept};
 
     type Token = Text;
 
@@ -208,6 +210,8 @@ impl Machine for StringAt {
     ghost whole = { spec.final };
 
     ghost longest = { spec.longest };
+
+    ghost kept = { string_kept };
 
     #[tactic(auto, using(crate::proofs::Growing::string_grown))]
     fn step(self, alloc: Global, c: char, style: Style) -> Result<Stepped<StringAt>, Memory> {
@@ -238,6 +242,18 @@ impl Machine for StringAt {
             StringAt::Backslash(quoting, _) => empty_before(alloc, quoting),
             StringAt::Escape(quoting, _, _) => empty_before(alloc, quoting),
             StringAt::Done(text) => Some(text),
+        }
+    }
+
+    fn kept(&self) -> usize {
+        match self {
+            StringAt::Start | StringAt::Opened(_) | StringAt::Empty(_) => 0,
+            StringAt::In(_, text) => size(text),
+            StringAt::Backslash(_, text) => size(text) + 1,
+            StringAt::Escape(_, at, text) => size(text) + at.kept(),
+            StringAt::OneQuote(_, text) => size(text) + 1,
+            StringAt::TwoQuotes(_, text) => size(text) + 2,
+            StringAt::Done(text) => size(text),
         }
     }
 }

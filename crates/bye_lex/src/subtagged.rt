@@ -42,6 +42,13 @@ impl Subtagged {
         Ok(Subtagged { text })
     }
 
+    /// The text of the tag.
+    pub fn text(&self) -> &Text
+        ensures { result.now ≡ self.now }
+    {
+        &self.text
+    }
+
     /// The tag.
     #[tactic(auto, using(crate::proofs::Longer::subtagged_tag))]
     pub fn into_tag(self) -> Tag

@@ -9,6 +9,7 @@ ghost use Rattle.std.specs.Str.{IsUtf8};
 
 use crate::fault::LexErr;
 use crate::machine::{Machine, read_token};
+use crate::measure::size;
 use crate::place::cursor_at;
 use crate::stepped::Stepped;
 use crate::style::Style;
@@ -92,6 +93,7 @@ fn subtag(tag: Subtagged, c: char) -> Result<Stepped<TagAt>, Memory>
 
 impl Machine for TagAt {
     ghost use Rattle.bye_lex.specs.TagSteps as spec;
+    ghost use Rattle.bye_lex.specs.Kept.{tag_kept};
 
     type Token = Tag;
 
@@ -100,6 +102,8 @@ impl Machine for TagAt {
     ghost whole = { spec.final };
 
     ghost longest = { spec.longest };
+
+    ghost kept = { tag_kept };
 
     #[tactic(auto, using(crate::proofs::Growing::tag_grown))]
     fn step(self, alloc: Global, c: char, _style: Style) -> Result<Stepped<TagAt>, Memory> {
@@ -122,6 +126,15 @@ impl Machine for TagAt {
             TagAt::Hyphen(tag) => Some(tag),
             TagAt::Subtag(tag) => Some(tag.into_tag()),
             _ => None,
+        }
+    }
+
+    fn kept(&self) -> usize {
+        match self {
+            TagAt::Start | TagAt::Sign => 0,
+            TagAt::Letters(tag) => size(tag.text()),
+            TagAt::Hyphen(tag) => size(tag.text()) + 1,
+            TagAt::Subtag(tag) => size(tag.text()),
         }
     }
 }

@@ -24,7 +24,8 @@ use Rattle.bye_ntriples.specs.declared.line.ObjectAt.TheVariants as objects
 use Rattle.bye_ntriples.proofs.LineMeaning.{LeftTriple}
 use Rattle.bye_lex.proofs.Machines.{run_on}
 use Rattle.bye_ntriples.proofs.LineEnds.{triple_ends}
-use Rattle.bye_ntriples.proofs.Passing.{Nothing, split, Longer, back_scalars, up_gives, doc_of_line, lines_run, run_grows, AreDots, Further, dots_state, dot_state, dot_leads, goes_on}
+use Rattle.bye_ntriples.proofs.Passing.{Nothing, up_gives, doc_of_line, lines_run, run_grows, AreDots, Further, dots_state, dot_state, dot_leads, goes_on}
+use Rattle.bye_lex.proofs.Fronts.{Longer, back_scalars, split}
 
 pub below : (a b : ℕ) → nat_lt a b ≡ true → a < b
 below a b e = grind (arith, nat_tests)

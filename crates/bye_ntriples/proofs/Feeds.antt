@@ -17,8 +17,8 @@ use Rattle.bye_lex.specs.Running.{run}
 use Rattle.bye_ntriples.specs.declared.fault.NtErr.{NtErr}
 use Rattle.bye_ntriples.specs.declared.fault.NtErr.TheVariants as faults
 use Rattle.bye_lex.proofs.Machines.{run_on}
-use Rattle.bye_ntriples.proofs.Passing.{back_scalars, front_scalars}
-use Rattle.bye_ntriples.proofs.Reading.{stop_refuses, over_refuses, step_refuses, left_refuses, left_over_refuses, label_refuses, goes_further, end_reads, end_stops, end_leaves, end_passes, none_empty}
+use Rattle.bye_ntriples.proofs.Reading.{stop_refuses, over_refuses, step_refuses, left_refuses, left_over_refuses, label_refuses, goes_further, end_reads, end_stops, end_leaves, end_passes}
+use Rattle.bye_lex.proofs.Fronts.{back_scalars, front_scalars, none_empty}
 
 pub record HasGone (d n : DocAt) (text : List ℕ) : Type 0 where
   pub runs : run step d text ≡ Some n

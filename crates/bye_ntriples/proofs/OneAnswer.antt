@@ -1,14 +1,12 @@
 -- That a graph document has one answer.
-use Rattle.std.proofs.Common.{◌≡◌, refl, ℕ, ◌+◌, ◌<◌, ◌≤◌, true, false, nat_lt, List, [], ◌∷◌, ◌++◌, Option, Some, None, Ok, Err, option_to_list, length, ◌⊎◌, inl, inr, ⊎_elim, sym, ◌∙◌, ap, subst, append_assoc, arith, length-append}
+use Rattle.std.proofs.Common.{◌≡◌, refl, ℕ, ◌+◌, ◌<◌, ◌≤◌, false, nat_lt, List, [], ◌∷◌, ◌++◌, Option, Some, None, Ok, Err, option_to_list, length, ◌⊎◌, inl, inr, ⊎_elim, sym, ◌∙◌, ap, subst, arith, length-append}
 use Rattle.std.specs.Char.{encode_utf8, IsScalar}
-use Rattle.std.specs.Str.{encode_utf8_all, all_scalars}
+use Rattle.std.specs.Str.{encode_utf8_all}
 use Rattle.std.proofs.lemmas.Bool.Decides.{nat_tests}
 use Rattle.std.proofs.lemmas.List.{append-nil}
 use Rattle.bye_terms.specs.Terms.{Statement}
 use Rattle.bye_terms.proofs.Tests.{both_parts}
-use Rattle.bye_lex.specs.Languages.{Viable}
-use Rattle.bye_lex.proofs.Branches.{some_same, none_some, scalars_join}
-use Rattle.bye_lex.proofs.Utf8Laws.{prefix_free}
+use Rattle.bye_lex.proofs.Branches.{some_same, none_some}
 use Rattle.bye_ntriples.specs.Answers.{triple_limit, Passes, IsGraph}
 use Rattle.bye_lex.specs.Stopping.{StopsAt, StopsAtEnd, LeavesOver}
 use Rattle.bye_ntriples.specs.DocSteps.{DocAt, start, step, final, held, pending, count}
@@ -22,53 +20,14 @@ use Rattle.bye_ntriples.specs.declared.line.LineAt.TheVariants.{Begin, Subject, 
 use Rattle.bye_ntriples.specs.declared.line.ObjectAt.TheVariants as objects
 use Rattle.bye_lex.proofs.Machines.{run_gives}
 use Rattle.bye_ntriples.proofs.DocExact.{LeftDoc, GoodDoc, doc_machine, of_text, doc_ends, map_some}
-use Rattle.bye_ntriples.proofs.Passing.{split, Longer, back_scalars, front_scalars}
 use Rattle.bye_ntriples.proofs.Counting.{no_passes}
-use Rattle.bye_ntriples.proofs.Reading.{at_char, none_before, none_empty}
-
--- the text at the front of the bytes can go on to a document, and with no character that follows it can
-record Halts (bytes front left : List ℕ) : Type 0 where
-  pub parts : bytes ≡ encode_utf8_all front ++ left
-  pub scalars : all_scalars front ≡ true
-  pub viable : Viable NtText front
-  pub stuck : (c : ℕ) (rest : List ℕ) → IsScalar c → left ≡ encode_utf8 c ++ rest → Viable NtText (front ++ c ∷ []) → ⊥
-
--- a front of a viable text is viable
-front_viable : (front : List ℕ) (c : ℕ) (more : List ℕ) → all_scalars more ≡ true → Viable NtText (front ++ c ∷ more) → Viable NtText (front ++ c ∷ [])
-front_viable front c more scalars w = record {
-  more = more ++ w.more;
-  scalars = scalars_join more w.more scalars w.scalars;
-  value = w.value;
-  whole = subst (λ t. NtText t w.value) (append_assoc front (c ∷ more) w.more ∙ sym (append_assoc front (c ∷ []) (more ++ w.more))) w.whole;
-}
-
--- a text that goes on past such a one is not viable
-no_longer : (bytes front left other : List ℕ) (c : ℕ) (more behind : List ℕ) → Halts bytes front left → all_scalars other ≡ true → Viable NtText other → other ≡ front ++ c ∷ more → left ≡ encode_utf8_all (c ∷ more) ++ behind → ⊥
-no_longer bytes front left other c more behind h scalars w is rest =
-    let k = both_parts _ _ (back_scalars front (c ∷ more) (ap all_scalars (sym is) ∙ scalars)) in
-    h.stuck c (encode_utf8_all more ++ behind) k.0 (rest ∙ append_assoc (encode_utf8 c) (encode_utf8_all more) behind) (front_viable front c more k.1 (subst (Viable NtText) is w))
-
--- and so the bytes have one such front
-halts_same : (bytes a b r t : List ℕ) → Halts bytes a r → Halts bytes b t → (a ≡ b) × (r ≡ t)
-halts_same bytes a b r t x y =
-    ⊎_elim (λ (h : (z : List ℕ) × (b ≡ a ++ z) × (r ≡ encode_utf8_all z ++ t)). same h.0 h.1 h.2) (λ (h : Longer a b r t). absurd (no_longer bytes b t a h.next h.more r y x.scalars x.viable h.is h.rest))
-    (split a b r t x.scalars y.scalars (sym x.parts ∙ y.parts))
-  where
-    same : (z : List ℕ) → b ≡ a ++ z → r ≡ encode_utf8_all z ++ t → (a ≡ b) × (r ≡ t)
-    same [] e f = (sym (e ∙ append-nil a), f)
-    same (c ∷ z) e f = absurd (no_longer bytes a r b c z t x y.scalars y.viable e f)
+use Rattle.bye_ntriples.proofs.Reading.{none_before}
+use Rattle.bye_lex.proofs.Fronts.{back_scalars, none_empty}
+use Rattle.bye_lex.proofs.Stopped.{Halts, end_halts, halts_same, leaves_halts, leaves_same, next_halts}
 
 -- a document halts at its end
-graph_halts : (bytes : List ℕ) (triples : List Statement) (g : IsGraph bytes triples) → Halts bytes g.doc.text []
-graph_halts bytes triples g = record {
-  parts = g.doc.encoded ∙ sym (append-nil (encode_utf8_all g.doc.text));
-  scalars = g.doc.scalars;
-  viable = record { more = []; scalars = refl; value = triples; whole = subst (λ t. NtText t triples) (sym (append-nil g.doc.text)) g.doc.lines };
-  stuck = λ c rest scalar e w. none_empty c rest scalar e;
-}
-
-leaves_halts : (bytes : List ℕ) (place : ℕ) (l : LeavesOver NtText bytes place) → Halts bytes l.front l.left
-leaves_halts bytes place l = record { parts = l.parts; scalars = l.scalars; viable = l.viable; stuck = λ c rest scalar e w. l.none c rest scalar e }
+graph_halts : (bytes : List ℕ) (triples : List Statement) (g : IsGraph bytes triples) → Halts NtText bytes g.doc.text []
+graph_halts bytes triples g = end_halts NtText bytes g.doc.text g.doc.encoded g.doc.scalars (record { more = []; scalars = refl; value = triples; whole = subst (λ t. NtText t triples) (sym (append-nil g.doc.text)) g.doc.lines })
 
 -- a character stands at the front
 record Stands (left : List ℕ) : Type 0 where
@@ -81,25 +40,19 @@ record Stands (left : List ℕ) : Type 0 where
 record Refused (bytes : List ℕ) (place : ℕ) : Type 0 where
   pub front : List ℕ
   pub left : List ℕ
-  pub halts : Halts bytes front left
+  pub halts : Halts NtText bytes front left
   pub at : place ≡ length (encode_utf8_all front)
   pub why : Stands left ⊎ ((left ≡ []) × ((triples : List Statement) → NtText front triples → ⊥))
 
 refused : (bytes : List ℕ) (place : ℕ) → StopsAt NtText bytes place ⊎ StopsAtEnd NtText bytes place → Refused bytes place
-refused bytes place (inl s) =
-    let is = both_parts _ _ (back_scalars s.front (s.next ∷ []) s.scalars) in
-    let halts : Halts bytes s.front (encode_utf8 s.next ++ s.rest) =
-    record {
-      parts = s.parts ∙ at_char s.front s.next s.rest;
-      scalars = front_scalars s.front (s.next ∷ []) s.scalars;
-      viable = s.before;
-      stuck = λ c rest scalar e w. s.after (subst (λ c. Viable NtText (s.front ++ c ∷ [])) (sym (prefix_free s.next c s.rest rest is.0 scalar e).0) w);
-    } in
-    record { front = s.front; left = encode_utf8 s.next ++ s.rest; halts = halts; at = s.at; why = inl (record { char = s.next; rest = s.rest; scalar = is.0; is = refl }) }
-refused bytes place (inr s) =
-    let halts : Halts bytes s.text [] =
-    record { parts = s.encoded ∙ sym (append-nil (encode_utf8_all s.text)); scalars = s.scalars; viable = s.viable; stuck = λ c rest scalar e w. none_empty c rest scalar e } in
-    record { front = s.text; left = []; halts = halts; at = s.at ∙ ap length s.encoded; why = inr (refl, s.none) }
+refused bytes place (inl s) = record {
+  front = s.front;
+  left = encode_utf8 s.next ++ s.rest;
+  halts = next_halts NtText bytes s.front s.next s.rest s.parts s.scalars s.before s.after;
+  at = s.at;
+  why = inl (record { char = s.next; rest = s.rest; scalar = (both_parts _ _ (back_scalars s.front (s.next ∷ []) s.scalars)).0; is = refl });
+}
+refused bytes place (inr s) = record { front = s.text; left = []; halts = end_halts NtText bytes s.text s.encoded s.scalars s.viable; at = s.at ∙ ap length s.encoded; why = inr (refl, s.none) }
 
 not_empty : (left : List ℕ) → left ≡ [] → 0 < length left → ⊥
 not_empty left e some = let n = ap length e in omega (arith, n, some)
@@ -113,31 +66,28 @@ ends text triples h =
 -- two answers of one kind
 graphs_same : (bytes : List ℕ) (a b : List Statement) → IsGraph bytes a → IsGraph bytes b → a ≡ b
 graphs_same bytes a b g h =
-    let same = halts_same bytes g.doc.text h.doc.text [] [] (graph_halts bytes a g) (graph_halts bytes b h) in
+    let same = halts_same NtText bytes g.doc.text h.doc.text [] [] (graph_halts bytes a g) (graph_halts bytes b h) in
     let x = ends g.doc.text a g.doc.lines in
     let y = ends h.doc.text b h.doc.lines in
     let state : x.0 ≡ y.0 = some_same (sym x.1 ∙ ap (run step start) same.0 ∙ y.1) in
     some_same (sym x.2 ∙ ap final state ∙ y.2)
 
 refused_same : (bytes : List ℕ) (a b : ℕ) → Refused bytes a → Refused bytes b → a ≡ b
-refused_same bytes a b x y = x.at ∙ ap (λ t. length (encode_utf8_all t)) (halts_same bytes x.front y.front x.left y.left x.halts y.halts).0 ∙ sym y.at
-
-leaves_same : (bytes : List ℕ) (a b : ℕ) → LeavesOver NtText bytes a → LeavesOver NtText bytes b → a ≡ b
-leaves_same bytes a b x y = x.at ∙ ap (λ t. length (encode_utf8_all t)) (halts_same bytes x.front y.front x.left y.left (leaves_halts bytes a x) (leaves_halts bytes b y)).0 ∙ sym y.at
+refused_same bytes a b x y = x.at ∙ ap (λ t. length (encode_utf8_all t)) (halts_same NtText bytes x.front y.front x.left y.left x.halts y.halts).0 ∙ sym y.at
 
 -- and of two kinds
 graph_refused : (bytes : List ℕ) (triples : List Statement) (place : ℕ) → IsGraph bytes triples → Refused bytes place → ⊥
 graph_refused bytes triples place g r =
-    let same = halts_same bytes g.doc.text r.front [] r.left (graph_halts bytes triples g) r.halts in
+    let same = halts_same NtText bytes g.doc.text r.front [] r.left (graph_halts bytes triples g) r.halts in
     ⊎_elim (λ (k : Stands r.left). none_empty k.char k.rest k.scalar (same.1 ∙ k.is))
     (λ (k : (r.left ≡ []) × ((triples : List Statement) → NtText r.front triples → ⊥)). k.1 triples (subst (λ t. NtText t triples) same.0 g.doc.lines)) r.why
 
 graph_leaves : (bytes : List ℕ) (triples : List Statement) (place : ℕ) → IsGraph bytes triples → LeavesOver NtText bytes place → ⊥
-graph_leaves bytes triples place g l = not_empty l.left (sym (halts_same bytes g.doc.text l.front [] l.left (graph_halts bytes triples g) (leaves_halts bytes place l)).1) l.some
+graph_leaves bytes triples place g l = not_empty l.left (sym (halts_same NtText bytes g.doc.text l.front [] l.left (graph_halts bytes triples g) (leaves_halts NtText bytes place l)).1) l.some
 
 refused_leaves : (bytes : List ℕ) (a b : ℕ) → Refused bytes a → LeavesOver NtText bytes b → ⊥
 refused_leaves bytes a b r l =
-    let same = halts_same bytes r.front l.front r.left l.left r.halts (leaves_halts bytes b l) in
+    let same = halts_same NtText bytes r.front l.front r.left l.left r.halts (leaves_halts NtText bytes b l) in
     ⊎_elim (λ (k : Stands r.left). l.none k.char k.rest k.scalar (sym same.1 ∙ k.is))
     (λ (k : (r.left ≡ []) × ((triples : List Statement) → NtText r.front triples → ⊥)). not_empty l.left (sym same.1 ∙ k.0) l.some) r.why
 
@@ -187,7 +137,7 @@ one_answer bytes (Err (faults.Syntax p)) (Err faults.TooMany) x y = absurd (x.1 
 one_answer bytes (Err (faults.Syntax p)) (Err faults.Memory) x y = inr (inl refl)
 one_answer bytes (Err (faults.NotUtf8 p)) (Ok b) x y = absurd (graph_leaves bytes b p y x.0)
 one_answer bytes (Err (faults.NotUtf8 p)) (Err (faults.Syntax q)) x y = absurd (refused_leaves bytes q p (refused bytes q y.0) x.0)
-one_answer bytes (Err (faults.NotUtf8 p)) (Err (faults.NotUtf8 q)) x y = inr (inr (ap (λ n. Err (faults.NotUtf8 n)) (leaves_same bytes p q x.0 y.0)))
+one_answer bytes (Err (faults.NotUtf8 p)) (Err (faults.NotUtf8 q)) x y = inr (inr (ap (λ n. Err (faults.NotUtf8 n)) (leaves_same NtText bytes p q x.0 y.0)))
 one_answer bytes (Err (faults.NotUtf8 p)) (Err faults.TooMany) x y = absurd (x.1 y)
 one_answer bytes (Err (faults.NotUtf8 p)) (Err faults.Memory) x y = inr (inl refl)
 one_answer bytes (Err faults.TooMany) (Ok b) x y = absurd (graph_passes bytes b y x)

@@ -28,7 +28,8 @@ use Rattle.bye_lex.proofs.Machines.{run_on, run_step, bind_some, run_good, run_t
 use Rattle.bye_ntriples.proofs.LineReached.{is_blank, is_dots, is_dotted, Wanted, reached, into_subject, begun}
 use Rattle.bye_ntriples.proofs.LineEnds.{triple_ends, dot_left}
 use Rattle.bye_ntriples.proofs.DocExact.{LeftDoc, GoodDoc, doc_machine, as_text, doc_may_end, step_is}
-use Rattle.bye_ntriples.proofs.Passing.{Nothing, split, Longer, front_scalars, back_scalars, up_gives, up_takes, AreDots, dots_state, dot_state}
+use Rattle.bye_ntriples.proofs.Passing.{Nothing, up_gives, up_takes, AreDots, dots_state, dot_state}
+use Rattle.bye_lex.proofs.Fronts.{Longer, back_scalars, front_scalars, split}
 
 -- dots after the one that may end a triple
 pub record Dots (own : List ℕ) : Type 0 where

@@ -1,18 +1,15 @@
 -- Where a document has passed its greatest number of triples.
 use Rattle.std.proofs.Common.{◌≡◌, refl, ℕ, suc, ◌≤◌, Bool, true, false, cond, ◌==◌, List, [], ◌∷◌, ◌++◌, Option, Some, None, option_map, option_and_then, option_to_list, length, ◌⊎◌, inl, inr, ⊎_elim, sym, ◌∙◌, ap, subst, append_assoc, arith, length-append}
-use Rattle.std.specs.Char.{encode_utf8, IsScalar}
 use Rattle.std.specs.Str.{encode_utf8_all, all_scalars}
 use Rattle.std.proofs.lemmas.List.{append-nil}
 use Rattle.std.proofs.lemmas.Str.{encodes-append}
 use Rattle.bye_terms.specs.Terms.{Statement}
 use Rattle.bye_terms.specs.declared.term.Term.{Term}
 use Rattle.bye_terms.specs.declared.term.Term.TheVariants.{Blank}
-use Rattle.bye_terms.proofs.Tests.{both_parts}
 use Rattle.bye_lex.specs.LabelSteps as label_steps
 use Rattle.bye_lex.specs.declared.label.LabelAt.{LabelAt}
 use Rattle.bye_lex.specs.declared.label.LabelAt.TheVariants as labels
-use Rattle.bye_lex.proofs.Branches.{unless, eqb_same, some_same, none_some, and_true, pick_of, chosen, told}
-use Rattle.bye_lex.proofs.Utf8Laws.{prefix_free}
+use Rattle.bye_lex.proofs.Branches.{unless, eqb_same, some_same, none_some, pick_of, chosen, told}
 use Rattle.bye_ntriples.specs.Answers.{UpToDot, GoesOn, AreEnded}
 use Rattle.bye_ntriples.specs.Documents.{NtText}
 use Rattle.bye_ntriples.specs.DocSteps.{DocAt, start, line_ended, line_moved, step, final, held, pending, count}
@@ -33,37 +30,7 @@ use Rattle.bye_ntriples.proofs.TripleBack.{EndingBack, triple_back}
 use Rattle.bye_ntriples.proofs.LineReached.{stays}
 use Rattle.bye_ntriples.proofs.LineEnds.{dot_left}
 use Rattle.bye_ntriples.proofs.DocExact.{LeftDoc, GoodDoc, doc_machine, of_text, doc_ends, step_is, no_end}
-
--- two texts at the front of the same bytes
-scalar_of : (c : ℕ) (cs : List ℕ) → all_scalars (c ∷ cs) ≡ true → IsScalar c × (all_scalars cs ≡ true)
-scalar_of c cs e = both_parts _ _ e
-
-pub record Longer (a b r t : List ℕ) : Type 0 where
-  pub next : ℕ
-  pub more : List ℕ
-  pub scalar : IsScalar next
-  pub is : a ≡ b ++ next ∷ more
-  pub rest : t ≡ encode_utf8_all (next ∷ more) ++ r
-
-pub split : (a b r t : List ℕ) → all_scalars a ≡ true → all_scalars b ≡ true → encode_utf8_all a ++ r ≡ encode_utf8_all b ++ t → ((z : List ℕ) × (b ≡ a ++ z) × (r ≡ encode_utf8_all z ++ t)) ⊎ Longer a b r t
-split [] b r t x y e = inl (b, refl, e)
-split (c ∷ cs) [] r t x y e = inr (record { next = c; more = cs; scalar = (scalar_of c cs x).0; is = refl; rest = sym e })
-split (c ∷ cs) (d ∷ ds) r t x y e =
-    let p = scalar_of c cs x in
-    let q = scalar_of d ds y in
-    let k = prefix_free c d (encode_utf8_all cs ++ r) (encode_utf8_all ds ++ t) p.0 q.0 (sym (append_assoc (encode_utf8 c) (encode_utf8_all cs) r) ∙ e ∙ append_assoc (encode_utf8 d) (encode_utf8_all ds) t) in
-    ⊎_elim
-    (λ (h : (z : List ℕ) × (ds ≡ cs ++ z) × (r ≡ encode_utf8_all z ++ t)). inl (h.0, (λ i. sym k.0 i ∷ h.1 i), h.2))
-    (λ (h : Longer cs ds r t). inr (record { next = h.next; more = h.more; scalar = h.scalar; is = λ i. k.0 i ∷ h.is i; rest = h.rest }))
-    (split cs ds r t p.1 q.1 k.1)
-
-pub front_scalars : (a b : List ℕ) → all_scalars (a ++ b) ≡ true → all_scalars a ≡ true
-front_scalars [] b e = refl
-front_scalars (c ∷ a) b e = let k = both_parts _ _ e in and_true _ _ k.0 (front_scalars a b k.1)
-
-pub back_scalars : (a b : List ℕ) → all_scalars (a ++ b) ≡ true → all_scalars b ≡ true
-back_scalars [] b e = e
-back_scalars (c ∷ a) b e = let k = both_parts _ _ e in back_scalars a b k.1
+use Rattle.bye_lex.proofs.Fronts.{front_scalars}
 
 -- the machine of triples up to their dots
 abbrev pub Nothing : List ℕ → Type 0

@@ -3,7 +3,6 @@ use Rattle.std.proofs.Common.{◌≡◌, refl, ℕ, ◌+◌, ◌<◌, ◌≤◌,
 use Rattle.std.specs.Char.{encode_utf8, IsScalar}
 use Rattle.std.specs.Str.{encode_utf8_all, all_scalars}
 use Rattle.std.proofs.lemmas.List.{append-nil}
-use Rattle.std.proofs.lemmas.Str.{encodes-append, length-encode, len_utf8_bounds}
 use Rattle.bye_terms.specs.Characters.{is_label_part}
 use Rattle.bye_terms.specs.Terms.{Statement}
 use Rattle.bye_terms.specs.declared.term.Term.{Term}
@@ -34,10 +33,11 @@ use Rattle.bye_lex.proofs.Machines.{run_on, viable, not_viable, run_gives, run_t
 use Rattle.bye_lex.proofs.LabelExact.{stopped_dots}
 use Rattle.bye_ntriples.proofs.Tokens.{decided}
 use Rattle.bye_ntriples.proofs.DocExact.{LeftDoc, GoodDoc, doc_machine, of_text, as_text, doc_may_end, doc_ends}
-use Rattle.bye_ntriples.proofs.Passing.{split, Longer, back_scalars, dots_state, dot_state}
+use Rattle.bye_ntriples.proofs.Passing.{dots_state, dot_state}
 use Rattle.bye_ntriples.proofs.Counting.{StopsBefore, no_passes, not_passed, below, above}
 use Rattle.bye_ntriples.proofs.Overflow.{whole_opens, front_opens, over_passes, waiting}
 use Rattle.bye_ntriples.proofs.Completing.{end_shuts, step_passes}
+use Rattle.bye_lex.proofs.Fronts.{Longer, at_char, back_scalars, none_empty, split}
 
 -- fronts of documents by the machine
 text_viable : (front : List ℕ) (d : DocAt) → run step start front ≡ Some d → Viable NtText front
@@ -71,10 +71,6 @@ has_to_passes bytes p = record {
 
 many_refuses : (bytes : List ℕ) → ((more : List ℕ) → HasPassed (bytes ++ more)) → Refuses bytes faults.TooMany
 many_refuses bytes h more = (has_to_passes (bytes ++ more) (h more), λ (m : MayBeFront (bytes ++ more)). m.counted (h more))
-
--- bytes of a text, a character and what follows
-pub at_char : (front : List ℕ) (c : ℕ) (rest : List ℕ) → encode_utf8_all (front ++ c ∷ []) ++ rest ≡ encode_utf8_all front ++ (encode_utf8 c ++ rest)
-at_char front c rest = ap (λ t. t ++ rest) (encodes-append front (c ∷ []) ∙ ap (λ t. encode_utf8_all front ++ t) (append-nil (encode_utf8 c))) ∙ append_assoc (encode_utf8_all front) (encode_utf8 c) rest
 
 stops_before : (d : DocAt) (c : ℕ) (rest : List ℕ) → IsScalar c → step d c ≡ None → StopsBefore d (encode_utf8 c ++ rest)
 stops_before d c rest is e b behind scalar k = let same = prefix_free c b rest behind is scalar k in ap (step d) (sym same.0) ∙ e
@@ -262,12 +258,6 @@ last_count (AfterObject stated) fact e = none_some e
 last_count (Ended stated) fact e = let z = ap (λ f. length (option_to_list f)) (some_same e) in omega (arith, z)
 last_count (Comment None) fact e = let z = ap (λ f. length (option_to_list f)) (some_same e) in omega (arith, z)
 last_count (Comment (Some v)) fact e = let z = ap (λ f. length (option_to_list f)) (some_same e) in omega (arith, z)
-
-pub none_empty : NoCharacter []
-none_empty c rest scalar e = no_bytes c rest e
-  where
-    no_bytes : (c : ℕ) (rest : List ℕ) → ◌≡◌ {A = List ℕ} [] (encode_utf8 c ++ rest) → ⊥
-    no_bytes c rest e = let n = ap length e ∙ length-append (encode_utf8 c) rest in let l = length-encode c in let b = (len_utf8_bounds c).0 in omega (arith, n, l, b)
 
 whole_is : (front : List ℕ) → encode_utf8_all front ++ [] ≡ encode_utf8_all front
 whole_is front = append-nil (encode_utf8_all front)

@@ -17,7 +17,7 @@ use Rattle.bye_tsv.specs.Reading.{ReadingAt}
 use Rattle.bye_tsv.specs.declared.fault.Bounds.{Bounds}
 use Rattle.bye_tsv.specs.declared.fault.TsvErr.{TsvErr}
 use Rattle.bye_tsv.specs.declared.fault.TsvErr.TheVariants as faults
-use Rattle.bye_tsv.proofs.Fronts.{back_scalars, front_scalars, none_empty}
+use Rattle.bye_lex.proofs.Fronts.{back_scalars, front_scalars, none_empty}
 use Rattle.bye_tsv.proofs.Refusals.{end_leaves, end_passes, end_reads, end_stops, goes_further, left_refuses, step_refuses, stop_refuses}
 
 pub record HasGone (bounds : Bounds) (d n : DocAt) (text : List ℕ) : Type 0 where

@@ -7,6 +7,7 @@ pub mod FieldExact
 pub mod FieldEnds
 pub mod Steps
 pub mod Sound
+pub mod DocRuns
 pub mod DocMeaning
 pub mod DocForth
 pub mod DocBack
@@ -16,13 +17,13 @@ pub mod Encoded
 pub mod Added
 pub mod CsvText
 pub mod ReadBack
-pub mod Fronts
 pub mod Tracking
 pub mod Passing
 pub mod Faults
 pub mod Growing
 pub mod Refusals
 pub mod Feeds
+pub mod Unfinished
+pub mod Kept
 pub mod ReadingLaws
-pub mod Stopped
 pub mod OneAnswer

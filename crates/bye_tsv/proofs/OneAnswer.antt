@@ -1,5 +1,5 @@
 -- That a table document has one answer.
-use Rattle.std.proofs.Common.{◌≡◌, refl, ℕ, suc, ◌+◌, ◌<◌, ◌≤◌, true, List, [], ◌∷◌, ◌++◌, Option, Some, None, option_map, Ok, Err, length, ◌⊎◌, inl, inr, ⊎_elim, sym, ◌∙◌, ap, subst, append_assoc, append-nil, length-append, arith}
+use Rattle.std.proofs.Common.{◌≡◌, refl, ℕ, suc, ◌<◌, ◌≤◌, true, List, [], ◌∷◌, ◌++◌, Option, Some, None, option_map, Ok, Err, length, ◌⊎◌, inl, inr, ⊎_elim, sym, ◌∙◌, ap, subst, append_assoc, append-nil, length-append, arith}
 use Rattle.std.specs.Prelude.{Result}
 use Rattle.std.specs.Char.{encode_utf8, IsScalar}
 use Rattle.std.specs.Str.{encode_utf8_all, all_scalars}
@@ -27,7 +27,8 @@ use Rattle.bye_tsv.specs.declared.place.Place.TheVariants.{Start, Mark, Name as 
 use Rattle.bye_tsv.proofs.DocBack.{name_ended}
 use Rattle.bye_tsv.proofs.DocExact.{doc_ends, doc_machine, good_start}
 use Rattle.bye_tsv.proofs.DocMeaning.{GoodAt, GoodDoc, LeftAt, LeftDoc}
-use Rattle.bye_tsv.proofs.Stopped.{Halts, back_scalars, end_halts, front_of, front_scalars, halts_same, leaves_halts, leaves_same, next_halts, none_empty}
+use Rattle.bye_lex.proofs.Fronts.{back_scalars, front_scalars, none_empty}
+use Rattle.bye_lex.proofs.Stopped.{Halts, end_halts, front_of, halts_same, leaves_halts, leaves_same, next_halts}
 
 -- the machine reads the front of a document, and the rest is what it still wants
 record Reached (front rest : List ℕ) (table : TableValue) : Type 0 where

@@ -32,7 +32,7 @@ use Rattle.bye_tsv.proofs.DocBack.{name_ended, row_ended}
 use Rattle.bye_tsv.proofs.DocExact.{doc_machine, good_start, doc_ends, doc_may_end}
 use Rattle.bye_tsv.proofs.DocForth.{name_apart}
 use Rattle.bye_tsv.proofs.DocMeaning.{LeftDoc, GoodAt, GoodDoc}
-use Rattle.bye_tsv.proofs.Fronts.{Longer, split}
+use Rattle.bye_lex.proofs.Fronts.{Longer, split}
 
 -- counts and their bounds
 below : (n m : ℕ) → nat_lt n m ≡ true → n < m

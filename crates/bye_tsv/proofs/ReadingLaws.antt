@@ -7,7 +7,7 @@ use Rattle.bye_lex.proofs.Machines.{bind_some}
 use Rattle.bye_tsv.specs.Documents.{TsvDoc}
 use Rattle.bye_tsv.specs.DocSteps.{DocAt, IsSound, start, step}
 use Rattle.bye_tsv.specs.ReadingLaws.{DocumentsAreTables, OneTable}
-use Rattle.bye_tsv.proofs.Fronts.{none_empty}
+use Rattle.bye_lex.proofs.Fronts.{none_empty}
 use Rattle.bye_tsv.proofs.Passing.{doc_is_front, doc_runs}
 use Rattle.bye_tsv.proofs.Refusals.{none_before}
 use Rattle.bye_tsv.proofs.Sound.{sound_final, sound_start, sound_step}

@@ -19,7 +19,7 @@ use Rattle.bye_tsv.specs.declared.fault.TsvErr.TheVariants as faults
 use Rattle.bye_tsv.specs.declared.place.Place.TheVariants.{Begin}
 use Rattle.bye_tsv.proofs.DocForth.{border}
 use Rattle.bye_tsv.proofs.Faults.{fault_is}
-use Rattle.bye_tsv.proofs.Fronts.{Longer, at_char, back_scalars, none_empty, split}
+use Rattle.bye_lex.proofs.Fronts.{Longer, at_char, back_scalars, none_empty, split}
 use Rattle.bye_tsv.proofs.Growing.{IsBody, body_complete, body_run, final_vars, names_grow, rows_grow}
 use Rattle.bye_tsv.proofs.Passing.{StopsBefore, begins_line, doc_is_front, doc_runs, exceeded_none, exceeded_some, has_not, header_run, passes_not, reached, run_grown, runs_doc, text_runs, text_stops, text_viable, vars_not}
 use Rattle.bye_tsv.proofs.Tracking.{tracks}

@@ -72,7 +72,7 @@ empty_row = (λ v b. absurd (none b), tt)
     none h = cc
 
 -- each kind of step keeps it so
-sound_placed : (d : DocAt) (at : Place) → IsSound d → IsSound (placed d at)
+pub sound_placed : (d : DocAt) (at : Place) → IsSound d → IsSound (placed d at)
 sound_placed d at s = record { once = s.once; rows = s.rows; done = s.done; parts = s.parts; row = s.row }
 
 moved : (d n : DocAt) (at : Option Place) → IsSound d → option_map (placed d) at ≡ Some n → IsSound n

@@ -29,7 +29,7 @@ tab_ends d c v [] cell b e f t = let z = sym f ∙ e in cc
 tab_ends d c v (w ∷ later) cell b e f t = when _ _ _ t
 
 -- why a text is not walked, where a step of it is not made
-no_memory : (total : ℕ) (e : TsvErr) (w : Walked) → e ≡ faults.Memory → CannotWalk total e w
+pub no_memory : (total : ℕ) (e : TsvErr) (w : Walked) → e ≡ faults.Memory → CannotWalk total e w
 no_memory total e (Went d) k = k
 no_memory total e (Stopped d rest) k = inl k
 no_memory total e (Many many) k = inl k

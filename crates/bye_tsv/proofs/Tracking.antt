@@ -98,7 +98,7 @@ one_present front a b h k = go h.before k.before (sym h.parts ∙ k.parts)
     go (x ∷ xs) (y ∷ ys) e = go xs ys (heads x y (xs ++ h.mark ∷ a) (ys ++ k.mark ∷ b) e).1
 
 -- tests of characters
-no_lf : (c : ℕ) → is_border c ≡ false → ((c == 9) ≡ false) × ((c == 10) ≡ false)
+pub no_lf : (c : ℕ) → is_border c ≡ false → ((c == 9) ≡ false) × ((c == 10) ≡ false)
 no_lf c e = go (c == 9) (c == 10) (c == 13) e
   where
     go : (x y z : Bool) → (x || (y || z)) ≡ false → (x ≡ false) × (y ≡ false)
@@ -106,7 +106,7 @@ no_lf c e = go (c == 9) (c == 10) (c == 13) e
     go false true z e = cc
     go false false z e = (refl, refl)
 
-not_after : (c : ℕ) → after_name c ≡ None → (c == 10) ≡ false
+pub not_after : (c : ℕ) → after_name c ≡ None → (c == 10) ≡ false
 not_after c e = go (c == 9) (c == 10) (c == 13) e
   where
     go : (x y z : Bool) → cond x (Some Mark) (cond y (Some Begin) (cond z (Some HeaderReturn) None)) ≡ None → y ≡ false

@@ -42,10 +42,17 @@ abbrev pub HasRoom : State → ℕ → Type 0
 HasRoom (states.Reading reading) more = taken reading + more < 2 ^ 64
 HasRoom (states.Refused fault) more = ⊤
 
--- what it has read is sound
-abbrev pub IsKept : State → Type 0
-IsKept (states.Reading reading) = IsSound reading.doc
-IsKept (states.Refused fault) = ⊤
+-- what it has read is sound, and bytes that have come led there, less than 2^64 of them
+pub record IsLed (bounds : Bounds) (reading : ReadingAt) : Type 0 where
+  pub sound : IsSound reading.doc
+  pub bytes : List ℕ
+  pub came : HasCome bounds bytes reading
+  pub short : taken reading < 2 ^ 64
+
+-- a reader that reads has been led to where it is
+abbrev pub IsKept : Bounds → State → Type 0
+IsKept bounds (states.Reading reading) = IsLed bounds reading
+IsKept bounds (states.Refused fault) = ⊤
 
 -- what is left over after whole characters lets no document go on at this place
 abbrev pub CannotGoOn : Bool → ℕ → TsvErr → Type 0

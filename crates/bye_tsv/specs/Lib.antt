@@ -3,6 +3,7 @@ pub mod Fields
 pub mod Documents
 pub mod FieldSteps
 pub mod DocSteps
+pub mod DocRuns
 pub mod Written
 pub mod WrittenFields
 pub mod Records
@@ -10,6 +11,7 @@ pub mod ReadBack
 pub mod Answers
 pub mod Reading
 pub mod Feeding
+pub mod Kept
 pub mod Readers
 pub mod ReadingLaws
 pub mod OneAnswer

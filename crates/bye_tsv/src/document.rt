@@ -3,16 +3,20 @@
 ghost use Rattle.bye_lex.specs.NameSteps as name_spec;
 ghost use Rattle.bye_table.specs.Mappings.{NoRepeat, is_in};
 ghost use Rattle.bye_table.specs.Tables.{IsTable};
+ghost use Rattle.bye_tsv.specs.DocRuns.{DocRuns};
 ghost use Rattle.bye_tsv.specs.DocSteps as spec;
 ghost use Rattle.bye_tsv.specs.DocSteps.{CannotAdvance, CannotFinish, CannotWalk, Ends, IsNotGiven, IsSound, Moves, Went, table_of, walk};
 ghost use Rattle.bye_tsv.specs.Documents.{bound};
 ghost use Rattle.bye_tsv.specs.FieldSteps as field_spec;
+ghost use Rattle.bye_tsv.specs.Kept.{doc_kept, place_kept};
+ghost use Rattle.bye_tsv.specs.declared.fault.TsvErr.TheVariants as faults;
 ghost use Rattle.bye_tsv.specs.declared.place.Place.TheVariants as places;
 ghost use Rattle.std.specs.Prelude.{◌≡◌, true, ◌≤◌, None, ◌++◌, ◌+◌, ◌<◌, ◌^◌, ◌∷◌, [], Some, MatchOption, IfOk, IfErr, IfNone, OnOk, option_map, length};
 ghost use Rattle.std.specs.Str.{encode_utf8_all};
 
 use crate::fault::{Bounds, TsvErr};
 use crate::field::FieldAt;
+use crate::measure::{names_kept, row_kept};
 use crate::place::{Place, after_name, first_place, is_border, mark_place, return_place};
 use bye_lex::{Machine, NameAt, Stepped, Style};
 use bye_table::{Row, Table};
@@ -341,6 +345,25 @@ impl Document {
         self.check(bounds)
     }
 
+    /// Goes on at this place, and takes what goes on with a field there within its token.
+    fn put_run(&mut self, at: Place, rest: &mut Cursor<'_>) -> Result<(), Memory>
+        ensures { OnOk result (DocRuns (spec.placed self.old at) rest.old self.new rest.new) }
+    {
+        let at = at.take_run(rest)?;
+        self.put(at);
+        Ok(())
+    }
+
+    /// Takes what goes on with the present field within its token at once.
+    fn take_run(&mut self, rest: &mut Cursor<'_>) -> Result<(), TsvErr>
+        ensures ok { OnOk result (DocRuns self.old rest.old self.new rest.new) }
+        ensures err { IfErr result (λ e. e ≡ faults.Memory) }
+    {
+        let at = mem::replace(&mut self.at, Place::Begin);
+        self.put_run(at, rest)?;
+        Ok(())
+    }
+
     /// Takes more characters, which end at so many bytes. After a refusal the document is spoiled.
     pub fn walk(
         &mut self,
@@ -361,7 +384,29 @@ impl Document {
                 return Ok(());
             };
             self.advance(alloc, bounds, c, here)?;
+            self.take_run(&mut rest)?;
         }
+    }
+
+    /// How many bytes of the present name or field are kept, and of the names before it.
+    fn place_kept(&self) -> usize
+        requires { place_kept self.now.vars self.now.at < 2 ^ 64 }
+        ensures { result ≡ place_kept self.now.vars self.now.at }
+    {
+        match &self.at {
+            Place::Start | Place::Mark | Place::HeaderReturn => names_kept(self.vars.as_slice()),
+            Place::Name(at) => names_kept(self.vars.as_slice()) + at.kept(),
+            Place::Begin | Place::Return => 0,
+            Place::Field(at) => at.kept(),
+        }
+    }
+
+    /// How many bytes of the present line are kept.
+    pub fn kept(&self) -> usize
+        requires { doc_kept self.now < 2 ^ 64 }
+        ensures { result ≡ doc_kept self.now }
+    {
+        row_kept(self.pairs.as_slice()) + self.place_kept()
     }
 
     /// Ends the document. False where none ends there; then the document is spoiled.

@@ -1,14 +1,16 @@
 //! The machine of fields: how far a field was read, and what one more character makes of that.
 
 ghost use Rattle.bye_tsv.specs.Fields.{string_of, tagged_of};
+ghost use Rattle.bye_tsv.specs.DocRuns.{FieldRuns};
 ghost use Rattle.bye_tsv.specs.FieldSteps as spec;
+ghost use Rattle.bye_tsv.specs.Kept.{field_kept};
 ghost use Rattle.bye_lex.specs.declared.iri.IriAt.TheVariants as iris;
-ghost use Rattle.std.specs.Prelude.{◌≡◌, ℕ, List, IfOk, Some, is_some};
+ghost use Rattle.std.specs.Prelude.{◌≡◌, ◌<◌, ◌^◌, ℕ, List, IfOk, Some, is_some};
 
 use crate::number::{NumberAt, number};
 use crate::word::{WordAt, boolean};
-use bye_lex::{IriAt, LabelAt, Machine, Stepped, StringAt, Style, TagAt};
-use bye_terms::{Iri, Literal, Memory, Tag, Term, Text};
+use bye_lex::{IriAt, LabelAt, Machine, Stepped, StringAt, Style, TagAt, size};
+use bye_terms::{Cursor, Iri, Literal, Memory, Tag, Term, Text};
 use std::alloc::Global;
 
 /// How far a field was read.
@@ -229,6 +231,19 @@ impl FieldAt {
         }
     }
 
+    /// Takes what goes on with an IRI or a string within it, as far as its characters have no other meaning there.
+    #[tactic(auto, using(crate::proofs::DocRuns::iri_runs, crate::proofs::DocRuns::datatype_runs, crate::proofs::DocRuns::string_runs, crate::proofs::DocRuns::still))]
+    pub fn take_run(self, rest: &mut Cursor<'_>) -> Result<FieldAt, Memory>
+        ensures { IfOk result (λ at. FieldRuns self rest.old at rest.new) }
+    {
+        match self {
+            FieldAt::Iri(at) => Ok(FieldAt::Iri(at.take_run(rest)?)),
+            FieldAt::String(at) => Ok(FieldAt::String(at.take_run(rest)?)),
+            FieldAt::Datatype(lexical, at) => Ok(FieldAt::Datatype(lexical, at.take_run(rest)?)),
+            at => Ok(at),
+        }
+    }
+
     /// What stands in the cell of a field that ends there: None where no field ends there, and within, None for an empty one.
     pub fn cell(self, alloc: Global) -> Result<Option<Option<Term>>, Memory>
         ensures { IfOk result (λ o. o ≡ spec.final self) }
@@ -262,6 +277,24 @@ impl FieldAt {
             FieldAt::Datatype(_, at) => is_whole_datatype(at),
             FieldAt::Number(at, _) => at.kind().is_some(),
             FieldAt::Word(at) => at.value().is_some(),
+        }
+    }
+
+    /// How many bytes of what was read of it are kept.
+    pub fn kept(&self) -> usize
+        requires { field_kept self.now < 2 ^ 64 }
+        ensures { result ≡ field_kept self.now }
+    {
+        match self {
+            FieldAt::Empty => 0,
+            FieldAt::Iri(at) => at.kept(),
+            FieldAt::Label(at) => at.kept(),
+            FieldAt::String(at) => at.kept(),
+            FieldAt::Tag(lexical, at) => size(lexical) + at.kept(),
+            FieldAt::Caret(lexical) => size(lexical),
+            FieldAt::Datatype(lexical, at) => size(lexical) + at.kept(),
+            FieldAt::Number(_, text) => size(text),
+            FieldAt::Word(at) => at.kept(),
         }
     }
 }

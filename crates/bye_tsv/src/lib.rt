@@ -6,6 +6,7 @@ mod document;
 mod fault;
 mod field;
 mod laws;
+mod measure;
 mod number;
 mod pieces;
 mod place;

@@ -2,9 +2,10 @@
 
 ghost use Rattle.bye_tsv.specs.Answers.{IsFault, IsRead, IsRefusal, MayBeFront};
 ghost use Rattle.bye_tsv.specs.Feeding.{Came, HasRoom, IsReading};
+ghost use Rattle.bye_tsv.specs.Kept.{kept, unfinished};
 ghost use Rattle.bye_tsv.specs.declared.fault.TsvErr.{TsvErr as Fault};
 ghost use Rattle.bye_tsv.specs.declared.pieces.State.TheVariants as states;
-ghost use Rattle.std.specs.Prelude.{◌≡◌, ◌<◌, ◌+◌, ◌^◌, ◌++◌, [], ℕ, List, Err, IfOk, IfErr, OnOk, length};
+ghost use Rattle.std.specs.Prelude.{◌≡◌, ◌<◌, ◌≤◌, ◌+◌, ◌^◌, ◌++◌, [], ℕ, List, Err, IfOk, IfErr, OnOk, length};
 
 use crate::fault::{Bounds, TsvErr};
 use crate::reader::Reading;
@@ -35,7 +36,7 @@ impl Model for TsvReader {
 
     ghost view = { λ r. record { bounds = r.bounds; state = r.state } };
 
-    ghost invariant = { λ r. IsKept r.state };
+    ghost invariant = { λ r. IsKept r.bounds r.state };
 }
 
 impl TsvReader {
@@ -76,6 +77,18 @@ impl TsvReader {
             return Err(fault);
         }
         Ok(())
+    }
+
+    /// How many bytes of the line that is not ended the reader keeps, besides the rows that are complete: no more than stand after
+    /// the last LF. A reader that refuses keeps nothing. It takes no memory.
+    pub fn carried(&self) -> u64
+        ensures kept { result ≡ kept self.now.state }
+        ensures bound { (bytes : List ℕ) → Came self.now.bounds bytes self.now.state → result ≤ length (unfinished bytes) }
+    {
+        match &self.state {
+            State::Reading(reading) => reading.kept() as u64,
+            State::Refused(_) => 0,
+        }
     }
 
     /// The table of the whole document, as `read_tsv` reads it.

@@ -1,10 +1,12 @@
 //! Places in a document, and the characters between them.
 
+ghost use Rattle.bye_tsv.specs.DocRuns.{PlaceRuns};
 ghost use Rattle.bye_tsv.specs.DocSteps as spec;
-ghost use Rattle.std.specs.Prelude.{◌≡◌};
+ghost use Rattle.std.specs.Prelude.{◌≡◌, IfOk};
 
 use crate::field::FieldAt;
 use bye_lex::NameAt;
+use bye_terms::{Cursor, Memory};
 
 /// Where in its present line a document was read to.
 #[derive(Debug, Drop)]
@@ -22,6 +24,18 @@ pub enum Place {
     Field(FieldAt),
     /// After a CR that may end the line of a row.
     Return,
+}
+
+impl Place {
+    /// Takes what goes on with a field within its token at once.
+    pub fn take_run(self, rest: &mut Cursor<'_>) -> Result<Place, Memory>
+        ensures { IfOk result (λ at. PlaceRuns self rest.old at rest.new) }
+    {
+        match self {
+            Place::Field(at) => Ok(Place::Field(at.take_run(rest)?)),
+            at => Ok(at),
+        }
+    }
 }
 
 /// A TAB, LF or CR.

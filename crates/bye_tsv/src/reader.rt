@@ -4,6 +4,7 @@ ghost use Rattle.bye_table.specs.Tables.{TableValue};
 ghost use Rattle.bye_tsv.specs.Answers.{IsFault, IsRead, IsRefusal};
 ghost use Rattle.bye_tsv.specs.DocSteps.{IsSound, start};
 ghost use Rattle.bye_tsv.specs.Feeding.{CannotGoOn, HasCome, LedTo};
+ghost use Rattle.bye_tsv.specs.Kept.{reading_kept};
 ghost use Rattle.bye_tsv.specs.Reading.{taken};
 ghost use Rattle.std.specs.Prelude.{◌≡◌, ◌<◌, ◌+◌, ◌^◌, ◌++◌, [], ℕ, List, IfOk, IfErr, OnOk, length, true};
 ghost use Rattle.std.specs.Str.{encode_utf8_all};
@@ -99,6 +100,14 @@ impl Reading {
         let mut bytes = mem::replace(&mut self.left, Vec::new(alloc));
         append(&mut bytes, piece)?;
         self.take_bytes(alloc, bounds, bytes.as_slice())
+    }
+
+    /// How many bytes of the line that is not ended it keeps.
+    pub fn kept(&self) -> usize
+        requires { reading_kept self.now < 2 ^ 64 }
+        ensures { result ≡ reading_kept self.now }
+    {
+        self.document.kept() + self.left.len()
     }
 
     /// The table of the document that ends there.

@@ -134,3 +134,46 @@ fn reads_documents(rt: HostRuntime) -> Result<(), Fail> {
     }
     Ok(())
 }
+
+/// How much a reader carries that was fed all bytes, or those up to its refusal, so.
+fn carried(alloc: Global, bytes: &[u8], bounds: Bounds, length: usize) -> u64
+    requires { 0 < length }
+{
+    let mut reader = TsvReader::new(alloc, bounds);
+    let _fed = feed_all(&mut reader, bytes, length);
+    reader.carried()
+}
+
+/// Fronts of documents, with how many bytes of the line that is not ended a reader of each carries.
+const FRONTS: &[(&[u8], u64)] = &[
+    (b"", 0),
+    (b"?x\t?", 1),
+    (b"?x\t?n\xC3", 3),
+    (b"?x\t?n\xC3\xA9\r", 4),
+    (b"?x\t?n\xC3\xA9\r\n", 0),
+    (b"?x\t?y\n<http://e/\\u00", 13),
+    (b"?x\t?y\n<http://e/\\u00e9", 11),
+    (b"?x\t?y\n<http://e/\\u00e9>\t", 11),
+    (b"?x\t?y\n<http://e/\\u00e9>\t\"a\"@en-", 15),
+    (b"?x\t?y\n<http://e/\\u00e9>\t\"a\"@en-GB\r", 17),
+    (b"?x\t?y\n<http://e/\\u00e9>\t\"a\"@en-GB\r\n", 0),
+    (b"?x\n_:a.", 2),
+    (b"?x\n_:a.b", 3),
+    (b"?x\n\"\\t\\", 2),
+    (b"?x\n\"a\"^^<http://e/t", 11),
+    (b"?x\n\"a\"^^<http://e/t ", 0),
+    (b"?x\t?y\t?z\n1.5\ttr", 5),
+    (b"?x\t?y\t?z\n1.5\ttrue\t'\xF0\x9F", 9),
+];
+
+#[test]
+fn carries_the_line_that_is_not_ended(rt: HostRuntime) -> Result<(), Fail> {
+    let bounds = Bounds { vars: 3, rows: 3 };
+    for (front, wanted) in FRONTS {
+        for length in [1, 2, 7, 100] {
+            let carried = carried(rt.alloc(), front, bounds, length);
+            assert_eq!(rt; carried, *wanted, "{front:?} by {length}");
+        }
+    }
+    Ok(())
+}

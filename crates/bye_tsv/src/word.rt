@@ -2,6 +2,7 @@
 
 ghost use Rattle.bye_tsv.specs.Fields.{boolean_of};
 ghost use Rattle.bye_tsv.specs.FieldSteps as spec;
+ghost use Rattle.bye_tsv.specs.Kept.{word_kept};
 ghost use Rattle.std.specs.Prelude.{◌≡◌, IfOk};
 
 use bye_terms::{Iri, Literal, Memory, Term, Text};
@@ -35,6 +36,19 @@ impl WordAt {
             (WordAt::Fal, 's') => Some(WordAt::Fals),
             (WordAt::Fals, 'e') => Some(WordAt::False),
             _ => None,
+        }
+    }
+
+    /// How many letters were read.
+    pub fn kept(self) -> usize
+        ensures { result ≡ word_kept self }
+    {
+        match self {
+            WordAt::T | WordAt::F => 1,
+            WordAt::Tr | WordAt::Fa => 2,
+            WordAt::Tru | WordAt::Fal => 3,
+            WordAt::True | WordAt::Fals => 4,
+            WordAt::False => 5,
         }
     }
 

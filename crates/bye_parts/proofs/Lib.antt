@@ -1,0 +1,14 @@
+pub mod Sets
+pub mod Cuts
+pub mod TokenKinds
+pub mod Shapes
+pub mod Forth
+pub mod Repeats
+pub mod Back
+pub mod Rooms
+pub mod Trailing
+pub mod Runs
+pub mod Rules
+pub mod Whole
+pub mod Gives
+pub mod NestRules

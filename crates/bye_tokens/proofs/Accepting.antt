@@ -1,0 +1,30 @@
+-- Machines of which each state accepts, by a test, the texts that complete what was read.
+use Rattle.std.proofs.Common.{◌≡◌, refl, ℕ, Bool, true, false, List, [], ◌∷◌, Option, Some, None, sym, ◌∙◌, ap}
+use Rattle.bye_tokens.proofs.Longest.{Reads}
+
+abbrev pub after : {S V : Type 0} → (S → V → List ℕ → Bool) → Option S → V → List ℕ → Bool
+after accepts None v text = false
+after accepts (Some n) v text = accepts n v text
+
+-- a state accepts a text exactly where its next state accepts the rest
+pub record Accepts {S V : Type 0} (accepts : S → V → List ℕ → Bool) (step : S → ℕ → Option S) (final : S → Option V) : Type 0 where
+  pub takes : (s : S) (v : V) (c : ℕ) (t : List ℕ) → accepts s v (c ∷ t) ≡ after accepts (step s c) v t
+  pub ends : (s : S) (v : V) → accepts s v [] ≡ true → final s ≡ Some v
+  pub may_end : (s : S) (v : V) → final s ≡ Some v → accepts s v [] ≡ true
+
+-- what each state still wants
+abbrev pub Left : {S V : Type 0} → (S → V → List ℕ → Bool) → S → List ℕ → V → Type 0
+Left accepts s text v = accepts s v text ≡ true
+
+pub reads : {S V : Type 0} (accepts : S → V → List ℕ → Bool) (step : S → ℕ → Option S) (final : S → Option V) → Accepts accepts step final → Reads (Left accepts) step final (λ s. Unit {0})
+reads {S} {V} accepts step final x = record {
+  forth = λ s c t v h. go s c t v (step s c) refl (sym (x.takes s v c t) ∙ h);
+  back = λ s n c t v g e h. x.takes s v c t ∙ ap (λ o. after accepts o v t) e ∙ h;
+  stays = λ s n c g e. tt;
+  ends = x.ends;
+  may_end = x.may_end;
+}
+  where
+    go : (s : S) (c : ℕ) (t : List ℕ) (v : V) (o : Option S) → step s c ≡ o → after accepts o v t ≡ true → (n : S) × (step s c ≡ Some n) × Left accepts n t v
+    go s c t v None e k = cc
+    go s c t v (Some n) e k = (n, e, k)

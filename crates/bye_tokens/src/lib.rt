@@ -1,0 +1,31 @@
+//! Tokens of query texts (SPARQL 1.1 Query, section 19.8), each the longest that matches.
+#![tactic(auto)]
+
+mod classes;
+mod escape;
+mod front;
+mod fronts;
+mod kind;
+mod laws;
+mod machine;
+mod name;
+mod number;
+mod read;
+mod run;
+mod scanner;
+mod sign;
+mod token;
+mod tokens;
+mod word;
+
+pub use laws::{one_token, splits_one_way};
+pub use name::{Plain, PlainAt};
+pub use number::NumberAt;
+pub use scanner::Scanner;
+pub use sign::Sign;
+pub use token::{Number, Placed, Token};
+pub use tokens::Tokens;
+pub use word::Word;
+
+#[cfg(test)]
+mod tests;
