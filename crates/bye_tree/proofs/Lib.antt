@@ -1,0 +1,14 @@
+pub mod Joining
+pub mod Judged
+pub mod Opened
+pub mod Narrow
+pub mod Walked
+pub mod Nodes
+pub mod Truths
+pub mod Groups
+pub mod Selected
+pub mod Elements
+pub mod Reading
+pub mod Taking
+pub mod Parting
+pub mod Chosen

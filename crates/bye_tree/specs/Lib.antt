@@ -1,0 +1,11 @@
+pub mod Exprs
+pub mod Names
+pub mod Judging
+pub mod Checking
+pub mod Trees
+pub mod Selects
+pub mod Written
+pub mod Taken
+pub mod Parted
+pub mod Gathering
+pub mod Refusals
