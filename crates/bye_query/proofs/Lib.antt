@@ -1,0 +1,9 @@
+pub mod Numbers
+pub mod Looking
+pub mod Takes
+pub mod Rules
+pub mod Loops
+pub mod Depths
+pub mod Joining
+pub mod Answering
+pub mod TextAnswers
