@@ -9,3 +9,4 @@ pub mod Literals
 pub mod Iris
 pub mod Members
 pub mod Valid
+pub mod Sameness

@@ -1,4 +1,5 @@
-ghost use Rattle.std.specs.Prelude.{◌≡◌, IfOk, IfSome, IsNone, Some, None, IsTrue, true, ◌↔◌, ◌++◌, codes};
+ghost use Rattle.bye_terms.specs.Sameness.{literal_fed};
+ghost use Rattle.std.specs.Prelude.{◌≡◌, fold, IfOk, IfSome, IsNone, Some, None, IsTrue, true, ◌↔◌, ◌++◌, codes};
 ghost use Rattle.std.specs.Str.{encode_utf8_all};
 ghost use Rattle.bye_terms.specs.Literals.{is_lang_string, lang_string, xsd_string};
 ghost use Rattle.bye_terms.specs.Pieces.{left_of};
@@ -12,6 +13,7 @@ use crate::spelling::Spelling;
 use crate::tag::Tag;
 use crate::text::Text;
 use std::alloc::Global;
+use std::hash::{Hash, Hasher};
 use std::marker::Model;
 
 /// A literal (RDF 1.1 Concepts, section 3.3). A tag is there exactly where the datatype is rdf:langString.
@@ -146,6 +148,17 @@ impl Literal {
         self.lexical.same(&other.lexical)
             && self.datatype.same(&other.datatype)
             && same_tag(&self.tag, &other.tag)
+    }
+
+    /// Feeds a hash the texts of the literal.
+    pub fn hash_texts<H: Hasher>(&self, state: &mut H)
+        ensures { state.new ≡ fold H.write state.old (literal_fed self.now) }
+    {
+        self.lexical.as_str().hash(state);
+        self.datatype.text().as_str().hash(state);
+        if let Some(tag) = &self.tag {
+            tag.text().as_str().hash(state);
+        }
     }
 
     /// An equal literal.

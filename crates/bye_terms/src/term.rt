@@ -14,6 +14,7 @@ use crate::spelling::{Spelling, compare};
 use crate::text::Text;
 use std::alloc::Global;
 use std::cmp::Ordering;
+use std::hash::{Hash, Hasher};
 
 /// A term of RDF (RDF 1.1 Concepts, section 3): an IRI, a blank node with its label, or a literal.
 #[derive(Debug, Drop)]
@@ -94,6 +95,50 @@ impl Term {
         ensures { result ≡ slice_cmp nat_cmp (term_bytes self.now) (term_bytes other.now) }
     {
         compare(self.spelling(), other.spelling())
+    }
+}
+
+impl PartialEq for Term {
+    ghost use Rattle.std.specs.Cmp.{partial_equiv_from_equiv};
+    ghost use Rattle.bye_terms.specs.Sameness.{same_equivalence, same_term};
+
+    ghost eq = { same_term };
+
+    ghost laws = { partial_equiv_from_equiv same_equivalence };
+
+    fn eq(&self, other: &Term) -> bool {
+        self.same(other)
+    }
+}
+
+impl Eq for Term {
+    ghost use Rattle.bye_terms.specs.Sameness.{same_equivalence};
+
+    ghost laws = { same_equivalence };
+}
+
+impl Hash for Term {
+    ghost use Rattle.bye_terms.specs.Sameness.{same_fed, term_fed};
+
+    ghost hash_input = { term_fed };
+
+    ghost respects_eq = { same_fed };
+
+    fn hash<H: Hasher>(&self, state: &mut H) {
+        match self {
+            Term::Iri(iri) => {
+                state.write_u8(0);
+                iri.text().as_str().hash(state);
+            }
+            Term::Blank(label) => {
+                state.write_u8(1);
+                label.text().as_str().hash(state);
+            }
+            Term::Lit(literal) => {
+                state.write_u8(2);
+                literal.hash_texts(state);
+            }
+        }
     }
 }
 
