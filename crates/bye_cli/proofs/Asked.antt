@@ -29,7 +29,7 @@ read_triples bytes triples (Err (errors.NotUtf8 place)) is e = cc
 read_triples bytes triples (Err errors.TooMany) is e = cc
 read_triples bytes triples (Err errors.Memory) is e = cc
 
-judged_triples : (bytes : List ℕ) (triples : List Statement) → IsVerdict OfGraph bytes (Good (Triples triples)) → AllByRecursion IsTriple triples
+pub judged_triples : (bytes : List ℕ) (triples : List Statement) → IsVerdict OfGraph bytes (Good (Triples triples)) → AllByRecursion IsTriple triples
 judged_triples bytes triples (inl h) = let c = h.1 in cc
 judged_triples bytes triples (inr h) = read_triples bytes triples h.1.0 h.1.1 h.1.2
 

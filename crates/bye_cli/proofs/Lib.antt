@@ -2,6 +2,7 @@ pub mod Asked
 pub mod Commands
 pub mod Exclusive
 pub mod Graphs
+pub mod Learned
 pub mod Settings
 pub mod Settled
 pub mod Unread

@@ -1,11 +1,9 @@
 -- The forms of tables that the settings of a command name.
-use Rattle.std.proofs.Common.{◌≡◌, refl, ℕ, List, [], ◌∷◌, get_or, codes, inl, inr, ◌⊎◌, ⊎_elim, sym, ◌∙◌, ap, subst, arith}
+use Rattle.std.proofs.Common.{◌≡◌, refl, ℕ, List, get_or, codes, ⊎_elim, sym, ◌∙◌, ap, subst, arith}
 use Rattle.bye_terms.specs.Members.{In}
 use Rattle.bye_terms.proofs.Members.{all_in}
 use Rattle.bye_words.specs.Pairs.{Word, Setting}
-use Rattle.bye_words.specs.Kinds.{IsOfKind}
-use Rattle.bye_words.specs.Forms.{AreOf, Form, IsKnown, IsLine, IsOneOf, IsReading, Name, convert, convert_table, forms, learn, names_in, read_forms, written_forms}
-use Rattle.bye_words.specs.declared.form_name.FormName.{FormName}
+use Rattle.bye_words.specs.Forms.{AreOf, Form, IsKnown, IsLine, IsReading, convert, convert_table, forms, learn, read_forms, written_forms}
 use Rattle.bye_words.specs.declared.form_name.FormName.TheVariants as names
 
 -- two names that differ at a place

@@ -133,7 +133,7 @@ no_answer refusals.LinkFault = omega arith
 no_answer (refusals.Example example) = omega arith
 no_answer (refusals.Remote remote) = omega arith
 
-is_done : (outcome : Outcome) → outcome_status outcome ≡ statuses.Done → outcome ≡ Ok endings.Done
+pub is_done : (outcome : Outcome) → outcome_status outcome ≡ statuses.Done → outcome ≡ Ok endings.Done
 is_done (Ok endings.Done) e = refl
 is_done (Ok endings.Refused) e = cc
 is_done (Err refusal) e = let n = ap number_of e in let m = no_answer refusal in absurd (omega arith)
@@ -143,7 +143,7 @@ is_refused (Ok endings.Done) e = cc
 is_refused (Ok endings.Refused) e = refl
 is_refused (Err refusal) e = let n = ap number_of e in let m = no_answer refusal in absurd (omega arith)
 
-is_write_fault : (outcome : Outcome) → outcome_status outcome ≡ statuses.WriteFault → outcome ≡ Err refusals.WriteFault
+pub is_write_fault : (outcome : Outcome) → outcome_status outcome ≡ statuses.WriteFault → outcome ≡ Err refusals.WriteFault
 is_write_fault (Ok endings.Done) e = cc
 is_write_fault (Ok endings.Refused) e = cc
 is_write_fault (Err refusals.Words) e = cc

@@ -7,7 +7,7 @@ use Rattle.bye_io.specs.declared.fault.ReadErr.TheVariants as errors
 use Rattle.bye_words.specs.Pairs.{Word}
 use Rattle.bye_cli.specs.Words.{Command, IsCommand}
 use Rattle.bye_cli.specs.Documents.{Files, Holds, HoldsLonger, Document, Kind, due, limit_of, role_of, Verdict, TooMany, Faulty, Good, IsRead, HasVerdict, Reaches, Stops}
-use Rattle.bye_cli.specs.Causes.{IsUnfit, IsUnread, IsCause, IsUnreadable}
+use Rattle.bye_cli.specs.Causes.{IsUnfit, IsUnread, IsCause}
 use Rattle.bye_cli.specs.Refusals.{refusal_of, verdict_refusal}
 use Rattle.bye_words.specs.declared.role.Role.{Role}
 use Rattle.bye_words.specs.declared.count.Count.TheVariants as counts

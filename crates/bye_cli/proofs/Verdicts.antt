@@ -1,5 +1,5 @@
 -- A document's bytes have one verdict.
-use Rattle.std.proofs.Common.{◌≡◌, refl, ℕ, ◌<◌, ◌≤◌, List, length, Option, Some, None, Result, Ok, Err, ◌⊎◌, inl, inr, ⊎_elim, sym, ◌∙◌, ap, subst, arith}
+use Rattle.std.proofs.Common.{◌≡◌, refl, ℕ, ◌<◌, ◌≤◌, List, length, Option, Some, None, Err, ◌⊎◌, inl, inr, ⊎_elim, sym, ◌∙◌, ap, subst, arith}
 use Rattle.bye_io.specs.Files.{Lacks}
 use Rattle.bye_terms.proofs.Readings.{some_same}
 use Rattle.bye_ntriples.specs.Answers.{NtAnswer}
@@ -11,9 +11,8 @@ use Rattle.bye_tsv.proofs.OneAnswer.{one_answer as one_tsv}
 use Rattle.bye_json.specs.Answers.{JsonAnswer}
 use Rattle.bye_json.specs.declared.json_err.JsonErr.TheVariants as json_errors
 use Rattle.bye_json.proofs.OneAnswer.{one_answer as one_json}
-use Rattle.bye_cli.specs.Documents.{Files, Document, Kind, OfGraph, OfTable, Reads, IsRead, bounds_of, graph_verdict, json_verdict, tsv_verdict, limit_of, most_rows, most_vars, Verdict, TooMany, IsVerdict, HasVerdict}
+use Rattle.bye_cli.specs.Documents.{Files, Document, Kind, OfGraph, OfTable, Reads, IsRead, bounds_of, graph_verdict, json_verdict, tsv_verdict, limit_of, most_rows, most_vars, Verdict, IsVerdict, HasVerdict}
 use Rattle.bye_cli.specs.declared.table_form.TableForm.TheVariants.{Tsv, Json}
-use Rattle.bye_words.specs.declared.count.Count.TheVariants as counts
 
 -- two answers of which none is want of memory have one verdict, where they are one
 one_reading : {A : Type 0} (IsAnswer : A → Type 0) (verdict_of : A → Option Verdict) (memory : A) (v w : Verdict) → verdict_of memory ≡ None

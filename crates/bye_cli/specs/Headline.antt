@@ -20,7 +20,7 @@ NoneFits graph wanted = NoFit InAndPlain graph (wanted_of wanted) []
 pub record IsOutcome (graph : List Statement) (wanted : TableValue) (Rose : Type 0) (before now : Option (List ℕ)) (status : Status) : Type 0 where
   -- where no count rose, the question is answered, or memory was refused
   pub answered : (Rose → ⊥) → IsAnswered status
-  -- on Done the text of a query of the class was appended of which every wanted row is an answer
+  -- on Done the text of a query of the class was appended of which every wanted row is an answer, and which is read as this query
   pub done : status ≡ Done → Sends (InUtf8 (IsQueryText graph wanted)) before now
   -- on Refused the line of the first variable in no common pattern was appended, and no query of the class fits
   pub refused : status ≡ Refused → Sends (InUtf8 (IsRefusalLine graph wanted)) before now × NoneFits graph wanted

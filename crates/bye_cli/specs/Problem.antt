@@ -1,12 +1,14 @@
 -- What `learn` is asked and what it writes, and what a command writes.
 use Rattle.std.specs.Prelude.{◌≡◌, ℕ, ◌<◌, List, ◌++◌, ◌⊎◌, length, codes}
 use Rattle.std.specs.Fmt.{decimal}
+use Rattle.std.specs.Str.{encode_utf8_all}
 use Rattle.bye_terms.specs.Terms.{Statement}
 use Rattle.bye_pattern.specs.Trees.{Select}
 use Rattle.bye_pattern.specs.Printed.{query_text}
 use Rattle.bye_table.specs.Tables.{TableValue}
 use Rattle.bye_pattern.specs.Certificates.{Claim, Domains, NoRoot, Uncovered}
 use Rattle.bye_pattern.specs.Learning.{IsLearnedQuery, IsJustRefused}
+use Rattle.bye_grammar.specs.Documents.{QueryDoc}
 use Rattle.bye_words.specs.Pairs.{Word}
 use Rattle.bye_cli.specs.Words.{IsLearn}
 use Rattle.bye_cli.specs.Documents.{Files, OfGraph, OfTable, Triples, Rows, Good, HasVerdict}
@@ -32,11 +34,12 @@ pub record IsAsked (files : Files) (words : List Word) (graph : List Statement) 
   pub given : IsGiven files words graph wanted
   pub some_row : 0 < length wanted.rows
 
--- the written text of the query that is learned
+-- the written text of the query that is learned; as a document, in UTF-8, it is read as this query
 pub record IsQueryText (graph : List Statement) (wanted : TableValue) (text : List ℕ) : Type 0 where
   pub query : Select
   pub learned : IsLearnedQuery graph wanted query
   pub written : text ≡ query_text query
+  pub read : QueryDoc (encode_utf8_all text) query
 
 -- the line of a claim of the class of one conjunction
 abbrev pub IsClaimLine : Claim → List ℕ → Type 0

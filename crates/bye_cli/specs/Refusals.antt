@@ -1,5 +1,5 @@
 -- The refusals of documents that were not read.
-use Rattle.std.specs.Prelude.{Option, Some, None, Result, Ok, Err}
+use Rattle.std.specs.Prelude.{Option, Some, None}
 use Rattle.bye_io.specs.declared.fault.ReadErr.{ReadErr}
 use Rattle.bye_io.specs.declared.fault.ReadErr.TheVariants as errors
 use Rattle.bye_words.specs.declared.role.Role.{Role}

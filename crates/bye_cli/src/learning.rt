@@ -7,7 +7,9 @@ ghost use Rattle.std.specs.Str.{encode_utf8_all};
 ghost use Rattle.bye_words.specs.Pairs.{Word};
 ghost use Rattle.bye_cli.specs.Words.{IsLearn};
 ghost use Rattle.bye_terms.specs.Terms.{IsTriple};
-ghost use Rattle.bye_pattern.specs.Learning.{claim_of};
+ghost use Rattle.bye_pattern.specs.Learning.{claim_of, common_query};
+ghost use Rattle.bye_pattern.specs.Selects.{IsSelect};
+ghost use Rattle.bye_tree.specs.Selects as spec;
 ghost use Rattle.bye_cli.specs.Problem.{IsAnswer, IsClaimLine, IsWritten};
 ghost use Rattle.bye_cli.specs.Causes.{IsCause};
 
@@ -18,9 +20,12 @@ use crate::opening::read_document;
 use crate::table_form::TableForm;
 use crate::table_reader::TableReader;
 use bye_io::Folder;
-use bye_pattern::{Claim, Learned, learn, write_conjunction};
+use bye_laws::read_as_selects;
+use bye_pattern::{Claim, Conjunction, Learned, Node, learn};
+use bye_printer::write_query;
 use bye_table::Table;
 use bye_terms::{Memory, Text, Triple, Var};
+use bye_tree::{Select, Tree};
 use bye_words::{Example, Refusal, Role};
 use itoa::Buffer;
 use std::alloc::Global;
@@ -69,14 +74,29 @@ fn text_answer(alloc: Global, text: &Text, ending: Ending) -> Result<Answer, Mem
     Ok(Answer { bytes, ending })
 }
 
-fn written(alloc: Global, graph: &[Triple], wanted: &Table) -> Result<Answer, Memory>
-    requires { 0 < length wanted.now.rows }
-    ensures { IfOk result (λ answer. AllByRecursion IsTriple graph.now → IsWritten graph.now wanted.now answer.ending answer.bytes.items) }
+/// The select of a learned conjunction.
+fn select_of(alloc: Global, query: Conjunction) -> Select
+    requires { IsSelect (common_query query.vars.items query.triples.items) }
+    ensures { spec.select_of result ≡ common_query query.vars.items query.triples.items }
 {
+    let root = Node::of_triples(alloc, query.triples);
+    Select::plain(alloc, Tree::new(root), query.vars)
+}
+
+fn written(alloc: Global, graph: &[Triple], wanted: &Table) -> Result<Answer, Memory>
+    requires triples { AllByRecursion IsTriple graph.now }
+    requires some_row { 0 < length wanted.now.rows }
+    ensures { IfOk result (λ answer. IsWritten graph.now wanted.now answer.ending answer.bytes.items) }
+{
+    read_as_selects();
     match learn(alloc, graph, wanted)? {
         Learned::Query(query) => {
-            let text = write_conjunction(alloc, query.vars.as_slice(), query.triples.as_slice())?;
-            text_answer(alloc, &text, Ending::Done)
+            let select = select_of(alloc, query);
+            let bytes = write_query(alloc, &select)?;
+            Ok(Answer {
+                bytes,
+                ending: Ending::Done,
+            })
         }
         Learned::Refused(claim) => {
             let text = claim_line(alloc, &claim)?;

@@ -3,12 +3,12 @@ use Rattle.std.proofs.Common.{◌≡◌, refl}
 use Rattle.bye_tokens.specs.declared.token.Token.{Token}
 use Rattle.bye_tokens.specs.declared.token.Token.TheVariants.{IriRef}
 use Rattle.bye_parts.specs.Brackets.{Plain, turn_of}
-use Rattle.bye_parts.proofs.Whole.{answers, derived_is_read, one_value, fronts_closed, fronts_alike, front_reads}
+use Rattle.bye_parts.proofs.Whole.{answers, derived_is_read, one_value, derived_is_front, fronts_closed, fronts_alike, front_reads}
 use Rattle.bye_grammar.specs.TokenKinds.{numbers, opening, closing, kind_of, number}
 use Rattle.bye_grammar.specs.Fits.{IsIriReference, IsPlainReference}
 use Rattle.bye_grammar.specs.Grammar.{document}
 use Rattle.bye_grammar.specs.Reading.{read_document}
-use Rattle.bye_grammar.specs.Laws.{DocumentsAreRead, DocumentsCome, DocumentsHaveOneValue, FrontsAreClosed, FittingIrisAreRead}
+use Rattle.bye_grammar.specs.Laws.{DocumentsAreRead, DocumentsCome, DocumentsHaveOneValue, DocumentsAreFronts, FrontsAreClosed, FittingIrisAreRead}
 use Rattle.bye_grammar.proofs.DocumentRules.{rule_document}
 
 pub documents_read : DocumentsAreRead
@@ -19,6 +19,9 @@ documents_come n ts w h = derived_is_read document read_document rule_document n
 
 pub documents_once : DocumentsHaveOneValue
 documents_once ts v w h k = one_value document read_document rule_document ts v w h k
+
+pub documents_fronts : DocumentsAreFronts
+documents_fronts ts w h = derived_is_front document read_document rule_document ts w h
 
 pub fronts_close : FrontsAreClosed
 fronts_close x y h = fronts_closed document read_document rule_document x y h

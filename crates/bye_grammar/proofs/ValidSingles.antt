@@ -5,14 +5,14 @@ use Rattle.std.proofs.lemmas.Slice.Eq.{bytes_eq-Decides}
 use Rattle.bye_terms.specs.Names.{is_iri, is_name, is_tag}
 use Rattle.bye_terms.specs.Literals.{lang_string, is_lang_string}
 use Rattle.bye_terms.specs.Members.{In, EachOnce}
+use Rattle.bye_lex.specs.declared.number.Number.{Number}
+use Rattle.bye_lex.specs.declared.number.Number.TheVariants as numbers
 use Rattle.bye_pattern.specs.declared.slot.Slot.{Slot}
 use Rattle.bye_pattern.specs.declared.slot.Slot.TheVariants.{Var, Const}
 use Rattle.bye_table.specs.Mappings.{Name, is_in}
 use Rattle.bye_tokens.specs.declared.token.Placed.{Placed}
 use Rattle.bye_tokens.specs.declared.token.Token.{Token}
 use Rattle.bye_tokens.specs.declared.token.Token.TheVariants.{IriRef, Prefixed, Variable, Tagged, Numeral, Keyword}
-use Rattle.bye_tokens.specs.declared.token.Number.{Number}
-use Rattle.bye_tokens.specs.declared.token.Number.TheVariants as numbers
 use Rattle.bye_tokens.specs.declared.word.Word.{Word}
 use Rattle.bye_tokens.specs.declared.word.Word.TheVariants as words
 use Rattle.bye_parts.specs.Parts.{Run}

@@ -5,6 +5,8 @@ use Rattle.std.specs.Str.{bytes_eq}
 use Rattle.bye_terms.specs.Names.{is_iri}
 use Rattle.bye_terms.specs.Literals.{lang_string, is_lang_string}
 use Rattle.bye_terms.specs.declared.term.Term.TheVariants.{Iri, Lit}
+use Rattle.bye_lex.specs.declared.number.Number.{Number}
+use Rattle.bye_lex.specs.declared.number.Number.TheVariants as numbers
 use Rattle.bye_pattern.specs.declared.slot.Slot.{Slot}
 use Rattle.bye_pattern.specs.declared.slot.Slot.TheVariants.{Var, Const}
 use Rattle.bye_pattern.specs.declared.kind.Kind.{Kind}
@@ -12,8 +14,6 @@ use Rattle.bye_pattern.specs.declared.kind.Kind.TheVariants as kinds
 use Rattle.bye_table.specs.Mappings.{Name, is_in}
 use Rattle.bye_tokens.specs.declared.token.Token.{Token}
 use Rattle.bye_tokens.specs.declared.token.Token.TheVariants.{IriRef, Prefixed, Variable, Quoted, Tagged, Numeral, Keyword}
-use Rattle.bye_tokens.specs.declared.token.Number.{Number}
-use Rattle.bye_tokens.specs.declared.token.Number.TheVariants as numbers
 use Rattle.bye_tokens.specs.declared.word.Word.{Word}
 use Rattle.bye_tokens.specs.declared.word.Word.TheVariants as words
 use Rattle.bye_tokens.specs.declared.sign.Sign.{Sign}

@@ -33,6 +33,10 @@ DocumentsCome = (n : ℕ) (ts : List Placed) (w : Written) → IsDocument ts w �
 abbrev pub DocumentsHaveOneValue : Type 0
 DocumentsHaveOneValue = (ts : List Placed) (v w : Written) → IsDocument ts v → IsDocument ts w → v ≡ w
 
+-- what derives is a front
+abbrev pub DocumentsAreFronts : Type 0
+DocumentsAreFronts = (ts : List Placed) (w : Written) → IsDocument ts w → IsFront ts
+
 -- what begins a front is a front
 abbrev pub FrontsAreClosed : Type 0
 FrontsAreClosed = (x y : List Placed) → IsFront (x ++ y) → IsFront x

@@ -6,3 +6,5 @@ pub mod Reading
 pub mod Valid
 pub mod Laws
 pub mod Worked
+pub mod Documents
+pub mod ValidSelects

@@ -1,6 +1,7 @@
 -- Documents worked out token by token: what they are read as, and where they go wrong.
 use Rattle.std.specs.Prelude.{◌≡◌, ℕ, false, List, [], ◌∷◌, ◌++◌, Some, map, codes}
 use Rattle.bye_terms.specs.declared.term.Term.TheVariants.{Iri}
+use Rattle.bye_lex.specs.declared.number.Number.TheVariants as numbers
 use Rattle.bye_pattern.specs.declared.slot.Slot.{Slot}
 use Rattle.bye_pattern.specs.declared.slot.Slot.TheVariants.{Var, Const}
 use Rattle.bye_pattern.specs.declared.kind.Kind.TheVariants as kinds
@@ -9,7 +10,6 @@ use Rattle.bye_pattern.specs.Written.{Block, Optional, Filter, group_of, Written
 use Rattle.bye_tokens.specs.declared.token.Placed.{Placed}
 use Rattle.bye_tokens.specs.declared.token.Token.{Token}
 use Rattle.bye_tokens.specs.declared.token.Token.TheVariants.{IriRef, Prefixed, Variable, Quoted, Tagged, Numeral, Keyword, Mark}
-use Rattle.bye_tokens.specs.declared.token.Number.TheVariants as numbers
 use Rattle.bye_tokens.specs.declared.word.Word.TheVariants as words
 use Rattle.bye_tokens.specs.declared.sign.Sign.TheVariants as signs
 use Rattle.bye_parts.specs.Readers.{Outcome, Got, Wrong, Deep, to_end}

@@ -4,6 +4,7 @@ ghost use Rattle.bye_grammar.specs.Laws.{
   DocumentsAreRead,
   DocumentsCome,
   DocumentsHaveOneValue,
+  DocumentsAreFronts,
   FrontsAreClosed,
   FittingIrisAreRead,
   DocumentsAreValid,
@@ -23,6 +24,11 @@ pub fn documents_come()
 /// No list of tokens derives from Document as two queries.
 pub fn documents_have_one_value()
     ensures { DocumentsHaveOneValue }
+{}
+
+/// Whatever derives from Document is a front of it.
+pub fn documents_are_fronts()
+    ensures { DocumentsAreFronts }
 {}
 
 /// What begins a front of Document is a front of it, so that the first wrong token of a text is one.

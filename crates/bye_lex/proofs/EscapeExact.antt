@@ -13,7 +13,7 @@ use Rattle.bye_lex.specs.declared.escape.EscapeStep.{EscapeStep}
 use Rattle.bye_lex.specs.declared.escape.EscapeStep.TheVariants.{Within, Whole}
 use Rattle.bye_lex.proofs.Branches.{when, unless, chosen, eqb_same, same_eqb, never, heads, none_some, pick_of, scalars_join, two_ways}
 use Rattle.bye_lex.proofs.Meanings.{After, EscapeTail, EscapeLeft}
-use Rattle.bye_lex.proofs.Numbers.{opens, digits_for}
+use Rattle.bye_lex.proofs.Digits.{opens, digits_for}
 
 -- the two marks of escapes, with their digits
 abbrev pub IsNumbered : Piece → Type 0

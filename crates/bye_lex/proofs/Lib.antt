@@ -3,7 +3,7 @@ pub mod Runs
 pub mod Scans
 pub mod Machines
 pub mod Embedding
-pub mod Numbers
+pub mod Digits
 pub mod Longer
 pub mod Growing
 pub mod Kept
@@ -18,6 +18,8 @@ pub mod IriWithin
 pub mod LabelExact
 pub mod TagExact
 pub mod NameExact
+pub mod Accepting
+pub mod NumberExact
 pub mod MarkReads
 pub mod StringMeaning
 pub mod StringTails

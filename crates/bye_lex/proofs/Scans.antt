@@ -13,7 +13,7 @@ pub record Exact {S V : Type 0} (Left : S → List ℕ → V → Type 0) (step :
   pub may_end : (s : S) (v : V) → final s ≡ Some v → Left s [] v
 
 -- no front of the text is in the rule but, maybe, the empty one
-abbrev NoLonger : {V : Type 0} → (List ℕ → V → Type 0) → List ℕ → Type 0
+abbrev pub NoLonger : {V : Type 0} → (List ℕ → V → Type 0) → List ℕ → Type 0
 NoLonger {V} L text = (front rest : List ℕ) (value : V) → text ≡ front ++ rest → 0 < length front → L front value → ⊥
 
 -- the longest front of the text that is in the rule
@@ -48,13 +48,13 @@ record Without {V : Type 0} (L : List ℕ → V → Type 0) (total : ℕ) (text 
 abbrev Says : {V : Type 0} → (List ℕ → V → Type 0) → ℕ → List ℕ → Option (V × ℕ) → Scanned V → Type 0
 Says L total text best x = Longest L total text x ⊎ Without L total text best x
 
-nothing_fits : {V : Type 0} (L : List ℕ → V → Type 0) (front rest : List ℕ) → ◌≡◌ {A = List ℕ} [] (front ++ rest) → 0 < length front → ⊥
+pub nothing_fits : {V : Type 0} (L : List ℕ → V → Type 0) (front rest : List ℕ) → ◌≡◌ {A = List ℕ} [] (front ++ rest) → 0 < length front → ⊥
 nothing_fits L [] rest e some = omega (arith, some)
 nothing_fits L (c ∷ cs) rest e some = cc
 
 module _ {S V : Type 0} (Left : S → List ℕ → V → Type 0) (step : S → ℕ → Option S) (final : S → Option V) (x : Exact Left step final) where
   -- a step that is made is the one of the text
-  follow : (s n : S) (c : ℕ) (t : List ℕ) (v : V) → step s c ≡ Some n → Left s (c ∷ t) v → Left n t v
+  pub follow : (s n : S) (c : ℕ) (t : List ℕ) (v : V) → step s c ≡ Some n → Left s (c ∷ t) v → Left n t v
   follow s n c t v e h =
       let m = x.forth s c t v h in
       subst (λ n. Left n t v) (some_same (sym m.1 ∙ e)) m.2
@@ -69,7 +69,7 @@ module _ {S V : Type 0} (Left : S → List ℕ → V → Type 0) (step : S → �
   viable_after s n c t e w = record { more = w.more; scalars = w.scalars; value = w.value; whole = follow s n c (t ++ w.more) w.value e w.whole }
 
   -- nothing goes on
-  none_stops : (s : S) (c : ℕ) (cs front rest : List ℕ) (v : V) → step s c ≡ None → c ∷ cs ≡ front ++ rest → 0 < length front → Left s front v → ⊥
+  pub none_stops : (s : S) (c : ℕ) (cs front rest : List ℕ) (v : V) → step s c ≡ None → c ∷ cs ≡ front ++ rest → 0 < length front → Left s front v → ⊥
   none_stops s c cs [] rest v e parts some h = omega (arith, some)
   none_stops s c cs (d ∷ ds) rest v e parts some h =
       let same = heads c d cs (ds ++ rest) parts in
@@ -121,7 +121,7 @@ module _ {S V : Type 0} (Left : S → List ℕ → V → Type 0) (step : S → �
     found = refl;
   }
 
-  none_further : (s n : S) (c : ℕ) (cs front rest : List ℕ) (v : V) → step s c ≡ Some n → final n ≡ None → NoLonger (Left n) cs → c ∷ cs ≡ front ++ rest → 0 < length front → Left s front v → ⊥
+  pub none_further : (s n : S) (c : ℕ) (cs front rest : List ℕ) (v : V) → step s c ≡ Some n → final n ≡ None → NoLonger (Left n) cs → c ∷ cs ≡ front ++ rest → 0 < length front → Left s front v → ⊥
   none_further s n c cs [] rest v e f none parts some h = omega (arith, some)
   none_further s n c cs (d ∷ []) rest v e f none parts some h =
       let same = heads c d cs rest parts in
@@ -189,7 +189,7 @@ module _ {S V : Type 0} (Left : S → List ℕ → V → Type 0) (step : S → �
     cut = λ e. let r = sym k.found ∙ e in cc;
   }
 
-  all_none : (start : S) (text : List ℕ) → final start ≡ None → NoLonger (Left start) text → NoFront (Left start) text
+  pub all_none : (start : S) (text : List ℕ) → final start ≡ None → NoLonger (Left start) text → NoFront (Left start) text
   all_none start text f none [] rest v parts h = none_some (sym f ∙ x.ends start v h)
   all_none start text f none (d ∷ ds) rest v parts h = none (d ∷ ds) rest v parts (omega arith) h
 

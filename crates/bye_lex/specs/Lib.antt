@@ -8,6 +8,8 @@ pub mod IriSteps
 pub mod LabelSteps
 pub mod TagSteps
 pub mod NameSteps
+pub mod Numbers
+pub mod NumberSteps
 pub mod Machines
 pub mod Kept
 pub mod Running

@@ -123,7 +123,7 @@ impl EscapeAt {
     }
 
     /// One character more, and None where it is no digit with which the escape may stand there.
-    #[tactic(auto, using(crate::proofs::Numbers::never_open))]
+    #[tactic(auto, using(crate::proofs::Digits::never_open))]
     pub fn step(self, c: char, home: Home) -> Option<EscapeStep>
         ensures next { result ≡ spec.step home self c }
         ensures allowed { IfSome result (spec.IsAllowed home) }

@@ -1,5 +1,5 @@
-//! Tokens of RDF's text formats, each read exactly: IRIs, strings, labels of blank nodes, language tags and names of
-//! variables; and the written spelling of terms.
+//! Tokens of RDF's text formats, each read exactly: IRIs, strings, labels of blank nodes, language tags, names of
+//! variables and numbers; and the written spelling of terms.
 #![tactic(auto)]
 
 mod class;
@@ -12,9 +12,11 @@ mod laws;
 mod machine;
 mod measure;
 mod name;
+mod number;
 mod place;
 mod quoting;
 mod run;
+mod scanner;
 mod scheme;
 mod stepped;
 mod string;
@@ -34,8 +36,10 @@ pub use laws::{one_answer, one_term, reads_back};
 pub use machine::{Machine, read_token};
 pub use measure::size;
 pub use name::{NameAt, name_at};
+pub use number::{Number, NumberAt};
 pub use quoting::{Quote, Quoting};
 pub use run::cut_run;
+pub use scanner::Scanner;
 pub use scheme::Scheme;
 pub use stepped::Stepped;
 pub use string::{StringAt, string_at};

@@ -12,3 +12,4 @@ pub mod Rules
 pub mod Whole
 pub mod Gives
 pub mod NestRules
+pub mod Alone

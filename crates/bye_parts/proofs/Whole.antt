@@ -25,7 +25,7 @@ room_bound {T} turn n k (c ∷ cs) e = after (turn c) n (λ m h. room_bound turn
     after Opens (suc n) ih e = let h = ih n e in omega (arith, h)
 
 -- where a bracket is opened at the limit, there is no room
-no_room : {T : Type 0} (turn : T → Turn) (n k : ℕ) (own more : List T) (c : T) → room turn n own ≡ Some 0 → turn c ≡ Opens → room turn n ((own ++ c ∷ []) ++ more) ≡ Some k → ⊥
+pub no_room : {T : Type 0} (turn : T → Turn) (n k : ℕ) (own more : List T) (c : T) → room turn n own ≡ Some 0 → turn c ≡ Opens → room turn n ((own ++ c ∷ []) ++ more) ≡ Some k → ⊥
 no_room turn n k own more c full opens e =
     let there : room turn n ((own ++ c ∷ []) ++ more) ≡ onto (turned (turn c) 0) (λ m. room turn m more) = ap (λ ts. room turn n ts) (append_assoc own (c ∷ []) more) ∙ room_join turn n 0 own (c ∷ more) full in
     let none : onto (turned (turn c) 0) (λ m. room turn m more) ≡ None = ap (λ t. onto (turned t 0) (λ m. room turn m more)) opens in
@@ -55,7 +55,7 @@ module _ {T V : Type 0} {K : Kinds T} {m : Bool} {F G : List ℕ} (P : ℕ → P
   came n ts v h = subst (λ ts. Comes (p n ts) v []) (append-nil ts) ((reads h.0 n).forth.got ts [] v h.1 tt)
 
   answer : (n : ℕ) (ts : List T) (o : Outcome T V) → p n ts ≡ o → Shown (P (suc n)) ts o → Keeps (turn_by K) n n ts o → Answers (any P) (turn_by K) n ts (to_end o)
-  answer n ts (Got v []) is k r = (refl, (suc n, subst (λ ts. (P (suc n)).derives ts v) (sym (k.1 ∙ append-nil k.0)) k.2))
+  answer n ts (Got v []) is k r = (refl, (suc n, subst (λ ts. (P (suc n)).derives ts v) (sym (k.1 ∙ append-nil k.0)) k.2), (n, ap (room (turn_by K) n) (r.1 ∙ append-nil r.0) ∙ r.2))
   answer n ts (Got v (c ∷ cs)) is k r = record {
     front = k.0;
     parts = k.1;
@@ -112,6 +112,10 @@ module _ {T V : Type 0} {K : Kinds T} {m : Bool} {F G : List ℕ} (P : ℕ → P
       both o is (inl e) (inl f) = let r : ◌≡◌ {A = Outcome T V} (Got v []) (Got w []) = sym e ∙ f in cc
       both o is (inr e) f = absurd (none_deep ts e.0 (is ∙ e.1))
       both o is (inl e) (inr f) = absurd (none_deep ts f.0 (is ∙ f.1))
+
+  -- what derives is a front
+  pub derived_is_front : (ts : List T) (v : V) → (any P).derives ts v → (any P).front ts
+  derived_is_front = shape.whole
 
   -- what begins a front is a front
   pub fronts_closed : (x y : List T) → (any P).front (x ++ y) → (any P).front x

@@ -26,9 +26,9 @@ pub record DeepToken {T V : Type 0} (P : Part T V) (turn : T → Turn) (n : ℕ)
   pub opens : turn bracket ≡ Opens
   pub full : room turn n front ≡ Some 0
 
--- the answer says of the tokens what holds by the grammar
+-- The answer says of the tokens what holds by the grammar. Where they are read, no more than n brackets are open in them at any place.
 abbrev pub Answers : {T V : Type 0} → Part T V → (T → Turn) → ℕ → List T → Outcome T V → Type 0
-Answers P turn n ts (Got v left) = (left ≡ []) × P.derives ts v
+Answers P turn n ts (Got v left) = (left ≡ []) × P.derives ts v × IsWithin turn n ts
 Answers P turn n ts (Wrong left) = WrongToken P turn n ts left
 Answers P turn n ts (Deep left) = DeepToken P turn n ts left
 

@@ -36,7 +36,6 @@ pub use learner::learn;
 pub use level::Level;
 pub use node::Node;
 pub use pattern::TriplePattern;
-pub use printer::write_conjunction;
 pub use rule::Rule;
 pub use slot::Slot;
 pub use worked::{

@@ -49,16 +49,18 @@ impl TriplePattern {
         }
     }
 
-    /// The subject.
+    /// The subject, which is a variable or an IRI.
     pub fn s(&self) -> &Slot
-        ensures { result.now ≡ self.now.s }
+        ensures value { result.now ≡ self.now.s }
+        ensures place { spec.is_place self.now.s ≡ true }
     {
         &self.s
     }
 
-    /// The predicate.
+    /// The predicate, which is a variable or an IRI.
     pub fn p(&self) -> &Slot
-        ensures { result.now ≡ self.now.p }
+        ensures value { result.now ≡ self.now.p }
+        ensures place { spec.is_place self.now.p ≡ true }
     {
         &self.p
     }

@@ -1,9 +1,5 @@
-pub mod Numbers
-pub mod Looking
-pub mod Takes
-pub mod Rules
-pub mod Loops
-pub mod Depths
-pub mod Joining
-pub mod Answering
-pub mod TextAnswers
+pub mod Tokens
+pub mod Texts
+pub mod Selects
+pub mod Coming
+pub mod OneAnswer

@@ -1,7 +1,3 @@
-pub mod KindViews
-pub mod Places
-pub mod Told
-pub mod Opening
-pub mod Features
-pub mod Answer
-pub mod TextAnswer
+pub mod Refusals
+pub mod Answers
+pub mod Passing

@@ -5,22 +5,23 @@ use Rattle.bye_terms.specs.Characters.{is_digit}
 use Rattle.bye_terms.specs.Names.{is_name}
 use Rattle.bye_terms.proofs.Tests.{one_part, not_both}
 use Rattle.bye_lex.specs.Marks.{TagToken}
+use Rattle.bye_lex.specs.Numbers.{is_sign}
 use Rattle.bye_lex.specs.Strings.{StringToken}
+use Rattle.bye_lex.specs.declared.number.Number.{Number}
 use Rattle.bye_lex.specs.declared.style.Style.TheVariants.{Query}
 use Rattle.bye_lex.proofs.Branches.{heads, eqb_same, never, none_some, or_first, or_second}
+use Rattle.bye_lex.proofs.NumberExact.{begins_number, one_digit}
 use Rattle.bye_tokens.specs.Fronts.{double}
 use Rattle.bye_tokens.specs.Kinds.{or, seen, IriRefToken, VariableToken, NumberToken, PlainToken, Lexeme}
-use Rattle.bye_tokens.specs.Numbers.{is_sign}
 use Rattle.bye_tokens.specs.Signs.{SignToken}
 use Rattle.bye_tokens.specs.declared.sign.Sign.{Sign}
-use Rattle.bye_tokens.specs.declared.token.Number.{Number}
 use Rattle.bye_tokens.specs.declared.token.Token.{Token}
 use Rattle.bye_tokens.specs.declared.token.Token.TheVariants.{IriRef, Variable, Quoted, Tagged, Numeral, Mark}
 use Rattle.bye_tokens.proofs.ClassTests.{digit_no_base}
 use Rattle.bye_tokens.proofs.IriFront.{iri_starts}
 use Rattle.bye_tokens.proofs.Literals.{one_of, fails, none_of_them}
 use Rattle.bye_tokens.proofs.Longest.{Shorter, Starts, apart, shorter_or}
-use Rattle.bye_tokens.proofs.OtherFronts.{string_starts, tag_starts, number_starts, begins_number, one_digit}
+use Rattle.bye_tokens.proofs.OtherFronts.{string_starts, tag_starts, number_starts}
 use Rattle.bye_tokens.proofs.PlainFront.{plain_starts, begins_plain}
 use Rattle.bye_tokens.proofs.SignFront.{One, Two, shape, sign_starts}
 use Rattle.bye_tokens.proofs.VariableFront.{variable_starts}

@@ -1,16 +1,11 @@
 -- A text that is cut in two, and the places of its parts in bytes.
-use Rattle.std.proofs.Common.{◌≡◌, refl, ℕ, ◌-◌, ◌≤◌, true, List, [], ◌∷◌, ◌++◌, length, take, sym, ◌∙◌, ap, subst, arith, length-append}
+use Rattle.std.proofs.Common.{◌≡◌, ℕ, ◌-◌, ◌≤◌, List, ◌++◌, length, take, sym, ◌∙◌, ap, subst, arith, length-append}
 use Rattle.std.specs.Str.{chars, encode_utf8_all, all_scalars, IsUtf8, IsCharBoundary}
 use Rattle.std.proofs.lemmas.Str.{encodes-append, encodes-chars, chars-encodes, scalars-chars, IsCharBoundary-at_seam}
 use Rattle.std.proofs.Math.Seq.{take-append_seam}
-use lib.Utf8.{scalar}
-use Rattle.bye_terms.proofs.Tests.{both_parts, both}
+use Rattle.bye_lex.proofs.Fronts.{front_scalars}
 use Rattle.bye_tokens.specs.Ends.{EndsIn}
 use Rattle.bye_tokens.specs.Reading.{before}
-
-front_scalars : (cs ds : List ℕ) → all_scalars (cs ++ ds) ≡ true → all_scalars cs ≡ true
-front_scalars [] ds e = refl
-front_scalars (c ∷ cs) ds e = let w = both_parts (scalar c) (all_scalars (cs ++ ds)) e in both (scalar c) (all_scalars cs) w.0 (front_scalars cs ds w.1)
 
 -- what stands before the rest, where the text is the front and the rest
 pub before_is : (text front rest : List ℕ) → text ≡ front ++ rest → before text rest ≡ front

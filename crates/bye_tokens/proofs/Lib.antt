@@ -1,8 +1,6 @@
 pub mod ClassTests
 pub mod Cuts
 pub mod Longest
-pub mod Accepting
-pub mod NumberExact
 pub mod PlainExact
 pub mod Runs
 pub mod PlainFront
@@ -18,3 +16,4 @@ pub mod Ending
 pub mod Escapes
 pub mod Letters
 pub mod ReadingOn
+pub mod Starting

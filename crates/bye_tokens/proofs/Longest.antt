@@ -2,8 +2,8 @@
 use Rattle.std.proofs.Common.{◌≡◌, refl, ℕ, ◌<◌, ◌≤◌, Bool, true, false, List, [], ◌∷◌, ◌++◌, Option, Some, None, option_map, ◌⊎◌, inl, inr, ⊎_elim, sym, ◌∙◌, ap, subst, arith, append_assoc, length, length-append}
 use Rattle.std.proofs.lemmas.List.{append-nil}
 use Rattle.bye_lex.specs.Languages.{Token, NoFront, Viable}
-use Rattle.bye_lex.proofs.Branches.{heads, some_same, none_some}
-use Rattle.bye_lex.proofs.Scans.{Exact}
+use Rattle.bye_lex.proofs.Branches.{heads, some_same}
+use Rattle.bye_lex.proofs.Scans.{Exact, NoLonger, nothing_fits, follow, none_stops, none_further, all_none}
 use Rattle.bye_tokens.specs.Kinds.{or, seen}
 use Rattle.bye_tokens.specs.Reading.{longest, better, onward, or_else, before}
 use Rattle.bye_tokens.proofs.Cuts.{before_is}
@@ -12,22 +12,6 @@ use Rattle.bye_tokens.proofs.Cuts.{before_is}
 abbrev pub Told : {V : Type 0} → (List ℕ → V → Type 0) → List ℕ → Option (V × List ℕ) → Type 0
 Told L text None = NoFront L text
 Told L text (Some r) = (own : List ℕ) × (text ≡ own ++ r.1) × Token L own r.1 r.0
-
--- Left s text value: from the state s on, the text completes what was read, and the whole stands for the value
-pub record Reads {S V : Type 0} (Left : S → List ℕ → V → Type 0) (step : S → ℕ → Option S) (final : S → Option V) (Good : S → Type 0) : Type 0 where
-  pub forth : (s : S) (c : ℕ) (t : List ℕ) (v : V) → Left s (c ∷ t) v → (n : S) × (step s c ≡ Some n) × Left n t v
-  pub back : (s n : S) (c : ℕ) (t : List ℕ) (v : V) → Good s → step s c ≡ Some n → Left n t v → Left s (c ∷ t) v
-  pub stays : (s n : S) (c : ℕ) → Good s → step s c ≡ Some n → Good n
-  pub ends : (s : S) (v : V) → Left s [] v → final s ≡ Some v
-  pub may_end : (s : S) (v : V) → final s ≡ Some v → Left s [] v
-
--- the machines of bye_lex do so
-pub of_exact : {S V : Type 0} (Left : S → List ℕ → V → Type 0) (step : S → ℕ → Option S) (final : S → Option V) → Exact Left step final → Reads Left step final (λ s. Viable (Left s) [])
-of_exact Left step final x = record { forth = x.forth; back = x.back; stays = x.alive; ends = x.ends; may_end = x.may_end }
-
--- no front of the text is in the rule but, maybe, the empty one
-abbrev NoLonger : {V : Type 0} → (List ℕ → V → Type 0) → List ℕ → Type 0
-NoLonger {V} L text = (front rest : List ℕ) (value : V) → text ≡ front ++ rest → 0 < length front → L front value → ⊥
 
 record Longer {V : Type 0} (L : List ℕ → V → Type 0) (text : List ℕ) (x : Option (V × List ℕ)) : Type 0 where
   own : List ℕ
@@ -41,25 +25,11 @@ record Kept {V : Type 0} (L : List ℕ → V → Type 0) (text : List ℕ) (best
   none : NoLonger L text
   same : x ≡ best
 
-nothing_fits : {V : Type 0} (L : List ℕ → V → Type 0) → NoLonger L []
-nothing_fits L [] rest value e some h = omega (arith, some)
-nothing_fits L (c ∷ front) rest value e some h = cc
-
-module _ {S V : Type 0} (Left : S → List ℕ → V → Type 0) (step : S → ℕ → Option S) (final : S → Option V) (Good : S → Type 0) (x : Reads Left step final Good) where
+module _ {S V : Type 0} (Left : S → List ℕ → V → Type 0) (step : S → ℕ → Option S) (final : S → Option V) (x : Exact Left step final) where
   abbrev Says : S → List ℕ → Option (V × List ℕ) → Option (V × List ℕ) → Type 0
   Says s text best y = Longer (Left s) text y ⊎ Kept (Left s) text best y
 
-  -- a step that is made is the one of the text
-  follow : (s n : S) (c : ℕ) (t : List ℕ) (v : V) → step s c ≡ Some n → Left s (c ∷ t) v → Left n t v
-  follow s n c t v e h = let m = x.forth s c t v h in subst (λ n. Left n t v) (some_same (sym m.1 ∙ e)) m.2
-
-  none_stops : (s : S) (c : ℕ) (cs front rest : List ℕ) (v : V) → step s c ≡ None → c ∷ cs ≡ front ++ rest → 0 < length front → Left s front v → ⊥
-  none_stops s c cs [] rest v e parts some h = omega (arith, some)
-  none_stops s c cs (d ∷ ds) rest v e parts some h =
-      let m = x.forth s d ds v h in
-      none_some (sym e ∙ ap (step s) (heads c d cs (ds ++ rest) parts).0 ∙ m.1)
-
-  longer : (s n : S) (c : ℕ) (cs : List ℕ) (y : Option (V × List ℕ)) → Good s → step s c ≡ Some n → Longer (Left n) cs y → Longer (Left s) (c ∷ cs) y
+  longer : (s n : S) (c : ℕ) (cs : List ℕ) (y : Option (V × List ℕ)) → Viable (Left s) [] → step s c ≡ Some n → Longer (Left n) cs y → Longer (Left s) (c ∷ cs) y
   longer s n c cs y g e k = record {
     own = c ∷ k.own;
     rest = k.rest;
@@ -67,12 +37,12 @@ module _ {S V : Type 0} (Left : S → List ℕ → V → Type 0) (step : S → �
     parts = ap (λ t. c ∷ t) k.parts;
     is = record {
       is = x.back s n c k.own k.value g e k.is.is;
-      longest = λ more after other parts some h. k.is.longest more after other parts some (follow s n c (k.own ++ more) other e h);
+      longest = λ more after other parts some h. k.is.longest more after other parts some (follow Left step final x s n c (k.own ++ more) other e h);
     };
     found = k.found;
   }
 
-  only : (s n : S) (c : ℕ) (cs : List ℕ) (v : V) (y : Option (V × List ℕ)) → Good s → step s c ≡ Some n → final n ≡ Some v → NoLonger (Left n) cs → y ≡ Some (v, cs) → Longer (Left s) (c ∷ cs) y
+  only : (s n : S) (c : ℕ) (cs : List ℕ) (v : V) (y : Option (V × List ℕ)) → Viable (Left s) [] → step s c ≡ Some n → final n ≡ Some v → NoLonger (Left n) cs → y ≡ Some (v, cs) → Longer (Left s) (c ∷ cs) y
   only s n c cs v y g e f none same = record {
     own = c ∷ [];
     rest = cs;
@@ -80,48 +50,35 @@ module _ {S V : Type 0} (Left : S → List ℕ → V → Type 0) (step : S → �
     parts = refl;
     is = record {
       is = x.back s n c [] v g e (x.may_end n v f);
-      longest = λ more after other parts some h. none more after other parts some (follow s n c more other e h);
+      longest = λ more after other parts some h. none more after other parts some (follow Left step final x s n c more other e h);
     };
     found = same;
   }
 
-  none_further : (s n : S) (c : ℕ) (cs front rest : List ℕ) (v : V) → step s c ≡ Some n → final n ≡ None → NoLonger (Left n) cs → c ∷ cs ≡ front ++ rest → 0 < length front → Left s front v → ⊥
-  none_further s n c cs [] rest v e f none parts some h = omega (arith, some)
-  none_further s n c cs (d ∷ []) rest v e f none parts some h =
-      let same = heads c d cs rest parts in
-      none_some (sym f ∙ x.ends n v (follow s n c [] v e (subst (λ d. Left s (d ∷ []) v) (sym same.0) h)))
-  none_further s n c cs (d ∷ b ∷ ds) rest v e f none parts some h =
-      let same = heads c d cs (b ∷ ds ++ rest) parts in
-      none (b ∷ ds) rest v same.1 (omega arith) (follow s n c (b ∷ ds) v e (subst (λ d. Left s (d ∷ b ∷ ds) v) (sym same.0) h))
-
-  goes_on : (s n : S) (best : Option (V × List ℕ)) (c : ℕ) (cs : List ℕ) (y : Option (V × List ℕ)) → Good s → step s c ≡ Some n → Says n cs (better (final n) cs best) y → Says s (c ∷ cs) best y
+  goes_on : (s n : S) (best : Option (V × List ℕ)) (c : ℕ) (cs : List ℕ) (y : Option (V × List ℕ)) → Viable (Left s) [] → step s c ≡ Some n → Says n cs (better (final n) cs best) y → Says s (c ∷ cs) best y
   goes_on s n best c cs y g e said =
       ⊎_elim (λ k. inl (longer s n c cs y g e k))
       (λ (k : Kept (Left n) cs (better (final n) cs best) y).
       elim (final n) as (λ o. final n ≡ o → y ≡ better o cs best → Says s (c ∷ cs) best y) [
-        | None ↦ λ f same. inr (record { none = λ front rest v parts some h. none_further s n c cs front rest v e f k.none parts some h; same = same })
+        | None ↦ λ f same. inr (record { none = λ front rest v parts some h. none_further Left step final x s n c cs front rest v e f k.none parts some h; same = same })
         | Some v ↦ λ f same. inl (only s n c cs v y g e f k.none same)
       ] refl k.same)
       said
 
-  says : (s : S) (best : Option (V × List ℕ)) (text : List ℕ) → Good s → Says s text best (longest step final s best text)
-  says s best [] g = inr (record { none = nothing_fits (Left s); same = refl })
+  says : (s : S) (best : Option (V × List ℕ)) (text : List ℕ) → Viable (Left s) [] → Says s text best (longest step final s best text)
+  says s best [] g = inr (record { none = λ front rest v parts some h. nothing_fits (Left s) front rest parts some; same = refl })
   says s best (c ∷ cs) g =
       elim (step s c) as (λ o. step s c ≡ o → Says s (c ∷ cs) best (onward best (λ n. longest step final n (better (final n) cs best) cs) o)) [
-        | None ↦ λ e. inr (record { none = λ front rest v parts some h. none_stops s c cs front rest v e parts some h; same = refl })
-        | Some n ↦ λ e. goes_on s n best c cs _ g e (says n (better (final n) cs best) cs (x.stays s n c g e))
+        | None ↦ λ e. inr (record { none = λ front rest v parts some h. none_stops Left step final x s c cs front rest v e parts some h; same = refl })
+        | Some n ↦ λ e. goes_on s n best c cs _ g e (says n (better (final n) cs best) cs (x.alive s n c g e))
       ] refl
 
-  none_at_all : (s : S) (text : List ℕ) → final s ≡ None → NoLonger (Left s) text → NoFront (Left s) text
-  none_at_all s text f none [] rest v parts h = none_some (sym f ∙ x.ends s v h)
-  none_at_all s text f none (d ∷ ds) rest v parts h = none (d ∷ ds) rest v parts (omega arith) h
-
   -- the machine finds the longest token at the front
-  pub told : (s : S) (text : List ℕ) → Good s → final s ≡ None → Told (Left s) text (longest step final s None text)
+  pub told : (s : S) (text : List ℕ) → Viable (Left s) [] → final s ≡ None → Told (Left s) text (longest step final s None text)
   told s text g f =
       ⊎_elim
       (λ (k : Longer (Left s) text (longest step final s None text)). subst (Told (Left s) text) (sym k.found) (k.own, k.parts, k.is))
-      (λ (k : Kept (Left s) text None (longest step final s None text)). subst (Told (Left s) text) (sym k.same) (none_at_all s text f k.none))
+      (λ (k : Kept (Left s) text None (longest step final s None text)). subst (Told (Left s) text) (sym k.same) (all_none Left step final x s text f k.none))
       (says s None text g)
 
 -- a kind whose values are seen as others
@@ -216,9 +173,9 @@ further (c ∷ a) (d ∷ b) x y e l =
     let k = further a b x y h.1 (omega (arith, l)) in
     (k.0, ap (λ c. c ∷ b) (sym h.0) ∙ ap (λ t. c ∷ t) k.1, k.2)
 
-pub one_machine : {S V : Type 0} (Left : S → List ℕ → V → Type 0) (step : S → ℕ → Option S) (final : S → Option V) (Good : S → Type 0) → Reads Left step final Good → (s : S) → OneValue (Left s)
-one_machine Left step final Good x s [] v w h k = some_same (sym (x.ends s v h) ∙ x.ends s w k)
-one_machine Left step final Good x s (c ∷ t) v w h k = let n = x.forth s c t v h in one_machine Left step final Good x n.0 t v w n.2 (follow Left step final Good x s n.0 c t w n.1 k)
+pub one_machine : {S V : Type 0} (Left : S → List ℕ → V → Type 0) (step : S → ℕ → Option S) (final : S → Option V) → Exact Left step final → (s : S) → OneValue (Left s)
+one_machine Left step final x s [] v w h k = some_same (sym (x.ends s v h) ∙ x.ends s w k)
+one_machine Left step final x s (c ∷ t) v w h k = let n = x.forth s c t v h in one_machine Left step final x n.0 t v w n.2 (follow Left step final x s n.0 c t w n.1 k)
 
 pub one_valued : {F V : Type 0} (L : List ℕ → F → Type 0) (K : List ℕ → V → Type 0) (value : F → List ℕ → V) (from : (text : List ℕ) (v : V) → K text v → (f : F) × L text f × (v ≡ value f text)) → OneValue L → OneValue K
 one_valued L K value from one text v w h k = let a = from text v h in let b = from text w k in a.2 ∙ ap (λ f. value f text) (one text a.0 b.0 a.1 b.1) ∙ sym b.2

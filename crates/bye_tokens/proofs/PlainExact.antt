@@ -1,8 +1,11 @@
 -- The machine of words and prefixed names reads them.
-use Rattle.std.proofs.Common.{◌≡◌, refl, ℕ, Bool, true, false, cond, not, ◌&&◌, ◌||◌, ◌==◌, List, [], ◌∷◌, Option, Some, None, sym, subst}
+use Rattle.std.proofs.Common.{◌≡◌, refl, ℕ, Bool, true, false, cond, not, ◌&&◌, ◌||◌, ◌==◌, List, [], ◌∷◌, Option, Some, None, sym, subst, codes}
 use Rattle.std.specs.List.{list_all}
 use Rattle.bye_terms.specs.Characters.{is_letter, is_digit, is_low_base, is_high_base, is_name_base, is_name_mark, is_label_start, is_label_part}
+use Rattle.bye_lex.specs.Languages.{Viable}
+use Rattle.bye_lex.proofs.Accepting.{Left, exact, after as after_step}
 use Rattle.bye_lex.proofs.Branches.{none_some, some_same, or_first, or_second}
+use Rattle.bye_lex.proofs.Scans.{Exact}
 use Rattle.bye_tokens.specs.Classes.{is_word_part, is_prefix_part, is_hex, may_be_escaped}
 use Rattle.bye_tokens.specs.Names.{is_local, is_local_rest, is_percent, is_last_hex, is_escape}
 use Rattle.bye_tokens.specs.NameSteps.{step, form, after_prefix, escaped, in_local}
@@ -11,7 +14,6 @@ use Rattle.bye_tokens.specs.declared.name.Plain.{Plain}
 use Rattle.bye_tokens.specs.declared.name.Plain.TheVariants.{Word, Prefixed}
 use Rattle.bye_tokens.specs.declared.name.PlainAt.{PlainAt}
 use Rattle.bye_tokens.specs.declared.name.PlainAt.TheVariants.{Start, InWord, InPrefix, PrefixDot, Colon, InLocal, LocalDot, Percent, LastHex, Backslash}
-use Rattle.bye_tokens.proofs.Accepting.{Accepts, after as after_step}
 
 -- the rest of a prefixed name, in its prefix; `due` where a dot stands before it
 abbrev pub named_rest : Bool → List ℕ → Bool
@@ -184,6 +186,19 @@ takes LastHex Prefixed c t = one_takes (is_hex c) (is_local_rest false t) InLoca
 takes Backslash Word c t = one_no_word (may_be_escaped c) InLocal t refl
 takes Backslash Prefixed c t = one_takes (may_be_escaped c) (is_local_rest false t) InLocal t refl
 
+-- each state can go on
+pub can : (s : PlainAt) → Viable (Left accepts s) []
+can Start = record { more = codes ":"; scalars = refl; value = Prefixed; whole = refl }
+can InWord = record { more = []; scalars = refl; value = Word; whole = refl }
+can InPrefix = record { more = codes ":"; scalars = refl; value = Prefixed; whole = refl }
+can PrefixDot = record { more = codes "0:"; scalars = refl; value = Prefixed; whole = refl }
+can Colon = record { more = []; scalars = refl; value = Prefixed; whole = refl }
+can InLocal = record { more = []; scalars = refl; value = Prefixed; whole = refl }
+can LocalDot = record { more = codes "0"; scalars = refl; value = Prefixed; whole = refl }
+can Percent = record { more = codes "00"; scalars = refl; value = Prefixed; whole = refl }
+can LastHex = record { more = codes "0"; scalars = refl; value = Prefixed; whole = refl }
+can Backslash = record { more = codes "."; scalars = refl; value = Prefixed; whole = refl }
+
 ends : (s : PlainAt) (v : Plain) → accepts s v [] ≡ true → form s ≡ Some v
 ends Start Word h = cc
 ends Start Prefixed h = cc
@@ -218,5 +233,5 @@ may_end Percent v e = none_some e
 may_end LastHex v e = none_some e
 may_end Backslash v e = none_some e
 
-pub plain_accepts : Accepts accepts step form
-plain_accepts = record { takes = takes; ends = ends; may_end = may_end }
+pub plain_exact : Exact (Left accepts) step form
+plain_exact = exact accepts step form (record { takes = takes; can = can; ends = ends; may_end = may_end })

@@ -3,6 +3,7 @@ use Rattle.std.proofs.Common.{◌≡◌, refl, ℕ, Bool, true, false, cond, not
 use Rattle.std.specs.List.{list_all}
 use Rattle.bye_terms.specs.Characters.{is_letter, is_low_base, is_high_base, is_name_base}
 use Rattle.bye_terms.proofs.Tests.{both_parts, both}
+use Rattle.bye_lex.proofs.Accepting.{Left}
 use Rattle.bye_lex.proofs.Branches.{eqb_same, never, when, unless, or_first}
 use Rattle.bye_tokens.specs.Classes.{is_prefix_part, is_word_part}
 use Rattle.bye_tokens.specs.Fronts.{prefixed_of, plain_token, plain_front}
@@ -16,9 +17,8 @@ use Rattle.bye_tokens.specs.declared.name.Plain.TheVariants.{Word, Prefixed as N
 use Rattle.bye_tokens.specs.declared.name.PlainAt.TheVariants.{Start}
 use Rattle.bye_tokens.specs.declared.token.Token.{Token}
 use Rattle.bye_tokens.specs.declared.token.Token.TheVariants.{Prefixed, Keyword}
-use Rattle.bye_tokens.proofs.Accepting.{Left, reads}
 use Rattle.bye_tokens.proofs.Longest.{Told, told, told_valued, Starts, OneValue, one_machine, one_valued}
-use Rattle.bye_tokens.proofs.PlainExact.{accepts, is_named, named_rest, plain_accepts}
+use Rattle.bye_tokens.proofs.PlainExact.{accepts, is_named, named_rest, can, plain_exact}
 use Rattle.bye_tokens.proofs.Runs.{cut_here, cut_on}
 
 abbrev colon : ℕ → Bool
@@ -104,10 +104,10 @@ from : (text : List ℕ) (v : Token) → PlainToken text v → From text v
 from text v h = ⊎_elim (of_name text v) (of_word text v) h
 
 pub plain_told : (text : List ℕ) → Told PlainToken text (plain_front text)
-plain_told text = told_valued (Left accepts Start) PlainToken plain_token to from text _ (told (Left accepts) step form (λ s. Unit {0}) (reads accepts step form plain_accepts) Start text tt refl)
+plain_told text = told_valued (Left accepts Start) PlainToken plain_token to from text _ (told (Left accepts) step form plain_exact Start text (can Start) refl)
 
 pub one_plain : OneValue PlainToken
-one_plain = one_valued (Left accepts Start) PlainToken plain_token from (one_machine (Left accepts) step form (λ s. Unit {0}) (reads accepts step form plain_accepts) Start)
+one_plain = one_valued (Left accepts Start) PlainToken plain_token from (one_machine (Left accepts) step form plain_exact Start)
 
 -- what they begin with
 abbrev pub begins_plain : ℕ → Bool

@@ -2,26 +2,26 @@
 use Rattle.std.specs.Prelude.{ℕ, false, cond, ◌==◌, ◌&&◌, zero, suc, List, [], ◌∷◌, length, Option, Some, None, option_map}
 use Rattle.bye_terms.specs.Characters.{is_iri_char, is_name_start, is_name_part}
 use Rattle.bye_terms.specs.Reading.{◌>>=◌, after_at}
+use Rattle.bye_lex.specs.NumberSteps as number
 use Rattle.bye_lex.specs.Scanning.{place}
 use Rattle.bye_lex.specs.StringSteps as string
 use Rattle.bye_lex.specs.TagSteps as tag
+use Rattle.bye_lex.specs.declared.number.Number.{Number}
+use Rattle.bye_lex.specs.declared.number.NumberAt.TheVariants as numbers
 use Rattle.bye_lex.specs.declared.string.StringAt.TheVariants as strings
 use Rattle.bye_lex.specs.declared.style.Style.TheVariants.{Query}
 use Rattle.bye_lex.specs.declared.tag.TagAt.TheVariants as tags
 use Rattle.bye_tokens.specs.Classes.{is_mark}
 use Rattle.bye_tokens.specs.Names.{unescaped}
 use Rattle.bye_tokens.specs.NameSteps as name
-use Rattle.bye_tokens.specs.NumberSteps as number
 use Rattle.bye_tokens.specs.Reading.{or_else, longest, before, after_all, cut_at}
 use Rattle.bye_tokens.specs.Splitting.{skip}
 use Rattle.bye_tokens.specs.Words.{word_of}
 use Rattle.bye_tokens.specs.declared.name.Plain.{Plain}
 use Rattle.bye_tokens.specs.declared.name.Plain.TheVariants.{Word, Prefixed as Name}
 use Rattle.bye_tokens.specs.declared.name.PlainAt.TheVariants as names
-use Rattle.bye_tokens.specs.declared.number.NumberAt.TheVariants as numbers
 use Rattle.bye_tokens.specs.declared.sign.Sign.{Sign}
 use Rattle.bye_tokens.specs.declared.sign.Sign.TheVariants.{OpenGroup, CloseGroup, Open, Close, Dot, Semicolon, Comma, Carets, And, Or, Bang, Star, BlankMark, OpenSquare, CloseSquare, Caret, Bar, Slash, Plus, Dash, Question, Equal, Differs, Less, Greater, AtMost, AtLeast}
-use Rattle.bye_tokens.specs.declared.token.Number.{Number}
 use Rattle.bye_tokens.specs.declared.token.Placed.{Placed}
 use Rattle.bye_tokens.specs.declared.token.Token.{Token}
 use Rattle.bye_tokens.specs.declared.token.Token.TheVariants.{IriRef, Prefixed, Variable, Quoted, Tagged, Numeral, Keyword, Mark, Bad}

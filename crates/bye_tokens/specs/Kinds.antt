@@ -4,14 +4,14 @@ use Rattle.std.specs.List.{list_all}
 use Rattle.bye_terms.specs.Characters.{is_iri_char}
 use Rattle.bye_terms.specs.Names.{is_name}
 use Rattle.bye_lex.specs.Marks.{TagToken}
+use Rattle.bye_lex.specs.Numbers.{is_number}
 use Rattle.bye_lex.specs.Strings.{StringToken}
+use Rattle.bye_lex.specs.declared.number.Number.{Number}
 use Rattle.bye_lex.specs.declared.style.Style.TheVariants.{Query}
 use Rattle.bye_tokens.specs.Classes.{is_mark}
 use Rattle.bye_tokens.specs.Names.{PrefixedToken}
-use Rattle.bye_tokens.specs.Numbers.{is_number}
 use Rattle.bye_tokens.specs.Signs.{SignToken}
 use Rattle.bye_tokens.specs.Words.{WordToken}
-use Rattle.bye_tokens.specs.declared.token.Number.{Number}
 use Rattle.bye_tokens.specs.declared.token.Token.{Token}
 use Rattle.bye_tokens.specs.declared.token.Token.TheVariants.{IriRef, Prefixed, Variable, Quoted, Tagged, Numeral, Keyword, Mark}
 

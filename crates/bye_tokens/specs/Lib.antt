@@ -1,5 +1,4 @@
 pub mod Classes
-pub mod Numbers
 pub mod Names
 pub mod Words
 pub mod Signs
@@ -7,9 +6,9 @@ pub mod Kinds
 pub mod Splitting
 pub mod Ends
 pub mod Reading
-pub mod NumberSteps
 pub mod NameSteps
 pub mod Fronts
 pub mod Left
 pub mod KindNumbers
 pub mod Laws
+pub mod Beginnings

@@ -26,7 +26,7 @@ pub fn is_mark(c: char) -> bool
     c == '?' || c == '$'
 }
 
-pub fn is_digit(c: char) -> bool
+fn is_digit(c: char) -> bool
     ensures { result ≡ characters.is_digit c }
 {
     matches!(c, '0'..='9')

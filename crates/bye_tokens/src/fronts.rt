@@ -1,5 +1,6 @@
 //! The token at the front of a text, by kinds. Each function gives it with what is left after it.
 
+ghost use Rattle.bye_tokens.specs.Beginnings as beginnings;
 ghost use Rattle.bye_tokens.specs.Fronts as spec;
 ghost use Rattle.std.specs.Prelude.{◌≡◌, IfOk};
 ghost use Rattle.std.specs.Str.{chars};
@@ -9,20 +10,43 @@ use crate::escape::prefixed;
 use crate::front::before;
 use crate::machine::read_front;
 use crate::name::{Plain, PlainAt};
-use crate::number::NumberAt;
 use crate::run::{after_iri_chars, after_name_parts};
 use crate::scanner::scan;
 use crate::sign::{double, single};
 use crate::token::Token;
 use crate::word::word_of;
-use bye_lex::{StringAt, Style, TagAt};
+use bye_lex::{NumberAt, StringAt, Style, TagAt};
 use bye_terms::characters::is_name_start;
 use bye_terms::{Cursor, Memory, Text, Var};
 use std::alloc::Global;
 
+fn begins_string(rest: &Cursor<'_>) -> bool
+    ensures { result ≡ beginnings.begins_string rest.now }
+{
+    let mut ahead = Cursor::new(rest.rest());
+    match ahead.next() {
+        Some(c) => c == '"' || c == '\'',
+        None => false,
+    }
+}
+
+fn begins_tag(rest: &Cursor<'_>) -> bool
+    ensures { result ≡ beginnings.begins_tag rest.now }
+{
+    let mut ahead = Cursor::new(rest.rest());
+    match ahead.next() {
+        Some(c) => c == '@',
+        None => false,
+    }
+}
+
+#[tactic(auto, using(crate::proofs::Starting::no_string))]
 fn string<'a>(alloc: Global, rest: &Cursor<'a>) -> Result<Option<(Token, Cursor<'a>)>, Memory>
     ensures { IfOk result (λ o. o ≡ spec.string_front rest.now) }
 {
+    if !begins_string(rest) {
+        return Ok(None);
+    }
     match read_front(
         alloc,
         StringAt::Start,
@@ -51,9 +75,13 @@ fn iri<'a>(alloc: Global, rest: &Cursor<'a>) -> Result<Option<(Token, Cursor<'a>
     Ok(Some((Token::IriRef(text), after)))
 }
 
+#[tactic(auto, using(crate::proofs::Starting::no_tag))]
 fn tag<'a>(alloc: Global, rest: &Cursor<'a>) -> Result<Option<(Token, Cursor<'a>)>, Memory>
     ensures { IfOk result (λ o. o ≡ spec.tag_front rest.now) }
 {
+    if !begins_tag(rest) {
+        return Ok(None);
+    }
     match read_front(alloc, TagAt::Start, Cursor::new(rest.rest()), Style::Query) {
         Ok(Some((tag, after))) => Ok(Some((Token::Tagged(tag), after))),
         Ok(None) => Ok(None),

@@ -9,7 +9,6 @@ mod kind;
 mod laws;
 mod machine;
 mod name;
-mod number;
 mod read;
 mod run;
 mod scanner;
@@ -18,12 +17,11 @@ mod token;
 mod tokens;
 mod word;
 
+pub use bye_lex::Number;
 pub use laws::{one_token, splits_one_way};
 pub use name::{Plain, PlainAt};
-pub use number::NumberAt;
-pub use scanner::Scanner;
 pub use sign::Sign;
-pub use token::{Number, Placed, Token};
+pub use token::{Placed, Token};
 pub use tokens::Tokens;
 pub use word::Word;
 

@@ -4,7 +4,7 @@ ghost use Rattle.bye_tokens.specs.NameSteps as spec;
 ghost use Rattle.std.specs.Prelude.{◌≡◌};
 
 use crate::classes::{is_hex, is_name_base, is_prefix_part, is_word_part, may_be_escaped};
-use crate::scanner::Scanner;
+use bye_lex::Scanner;
 use bye_terms::characters::{is_label_part, is_label_start, is_letter};
 
 /// Which of the two.

@@ -1,14 +1,7 @@
 use crate::sign::Sign;
 use crate::word::Word;
+use bye_lex::Number;
 use bye_terms::{Tag, Text, Var};
-
-/// Which datatype a number has: xsd:integer, xsd:decimal or xsd:double.
-#[derive(Debug, Copy, Clone)]
-pub enum Number {
-    Integer,
-    Decimal,
-    Double,
-}
 
 /// A token of a query text, with what it stands for (SPARQL 1.1 Query, section 19.8).
 #[derive(Debug, Drop)]

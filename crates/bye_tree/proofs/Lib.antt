@@ -12,3 +12,4 @@ pub mod Reading
 pub mod Taking
 pub mod Parting
 pub mod Chosen
+pub mod Placing

@@ -5,6 +5,7 @@ use Rattle.bye_table.specs.Mappings.{Name}
 use Rattle.bye_pattern.specs.Conditions.{Expr}
 use Rattle.bye_pattern.specs.Trees.{Tree, tree_vars}
 use Rattle.bye_pattern.specs.Written.{Group, Written}
+use Rattle.bye_pattern.specs.Selects.{SelectsAll}
 use Rattle.bye_pattern.specs.Gathered.{IsBrokenEarly, IsDesignedEarly, gather, gathered_tree, outer_tests}
 use Rattle.bye_tree.specs.declared.gather_err.GatherErr.{GatherErr}
 use Rattle.bye_tree.specs.declared.gather_err.GatherErr.TheVariants.{Broken, Projected, Memory}
@@ -18,10 +19,6 @@ pub record IsRoot (g : Group) (t : Tree) (outer : List Expr) : Type 0 where
   pub tree_is : t ≡ gathered_tree g
   pub outer_is : outer ≡ outer_tests g
 
--- each variable of the tree is selected, where DISTINCT is missing
-abbrev pub SelectsAll : Written → Type 0
-SelectsAll w = w.distinct ≡ false → (v : Name) → In (tree_vars (gather w).tree) v → In (gather w).vars v
-
 -- some variable of the tree is not selected
 abbrev pub LacksVariable : Written → Type 0
 LacksVariable w = (v : Name) × In (tree_vars (gather w).tree) v × (In (gather w).vars v → ⊥)
@@ -30,7 +27,7 @@ LacksVariable w = (v : Name) × In (tree_vars (gather w).tree) v × (In (gather 
 pub record IsSelected (w : Written) (vars : List Name) : Type 0 where
   pub early : IsDesignedEarly w
   pub vars_are : vars ≡ (gather w).vars
-  pub all : SelectsAll w
+  pub all : SelectsAll (gather w)
 
 -- the named variables are some, and none is named twice
 abbrev pub AreNamed : Option (List Name) → Type 0

@@ -9,10 +9,11 @@ ghost use Rattle.bye_pattern.specs.Conditions as expr;
 ghost use Rattle.bye_pattern.specs.Nodes.{forest_of, tree_of};
 ghost use Rattle.bye_pattern.specs.Trees.{node};
 ghost use Rattle.bye_pattern.specs.Written.{Group};
+ghost use Rattle.bye_pattern.specs.Selects.{SelectsAll};
 ghost use Rattle.bye_pattern.specs.Gathered as spec;
 ghost use Rattle.bye_pattern.specs.Gathered.{HasPlainOptionals, IsDesignedEarly, conjuncts, optional_tree};
 ghost use Rattle.bye_tree.specs.Exprs.{expr_of};
-ghost use Rattle.bye_tree.specs.Gathering.{AreNamed, IsCause, IsRoot, IsSelected, SelectsAll, written};
+ghost use Rattle.bye_tree.specs.Gathering.{AreNamed, IsCause, IsRoot, IsSelected, written};
 ghost use Rattle.bye_tree.specs.Judging.{has_new};
 ghost use Rattle.bye_tree.specs.Names.{with_names};
 ghost use Rattle.bye_tree.specs.Parted.{IsParts};
@@ -327,7 +328,7 @@ pub fn gather(alloc: Global, query: WrittenQuery) -> Result<Select, GatherErr>
     requires named { AreNamed (written_of query).vars }
     ensures ok { IfOk result (λ s. select_of s ≡ spec.gather (written_of query)) }
     ensures designed { OnOk result (IsDesignedEarly (written_of query)) }
-    ensures whole { OnOk result (SelectsAll (written_of query)) }
+    ensures whole { OnOk result (SelectsAll (spec.gather (written_of query))) }
     ensures cause { IfErr result (IsCause (written_of query)) }
 {
     let WrittenQuery {

@@ -15,6 +15,7 @@ mod written;
 pub use expr::Expr;
 pub use gather_err::GatherErr;
 pub use gathers::gather;
+pub use names::{Named, Names};
 pub use select::Select;
 pub use shape::{Shape, ShapeErr};
 pub use tree::Tree;

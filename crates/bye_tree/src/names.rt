@@ -1,4 +1,5 @@
-ghost use Rattle.std.specs.Prelude.{◌≡◌, [], IfOk, OnOk, map};
+ghost use Rattle.std.specs.Prelude.{◌≡◌, [], IfOk, MatchOption, OnOk, Some, map, slice_get};
+ghost use Rattle.bye_terms.specs.Members.{In};
 ghost use Rattle.std.specs.Str.{bytes_eq};
 ghost use Rattle.std.specs.Cmp.{partial_equiv_from_equiv};
 ghost use Rattle.std.specs.Cmp.Lexicographic.{nat_list_eq_equiv};
@@ -95,6 +96,13 @@ impl<'a> Names<'a> {
         ensures { result ≡ is_in self.now var.now }
     {
         self.set.contains(&Named { var })
+    }
+
+    /// The place of the name: None exactly where it is not one of these.
+    pub fn position(&self, var: &'a Var) -> Option<usize>
+        ensures { MatchOption result (In self.now var.now → ⊥) (λ place. slice_get self.now place ≡ Some var.now) }
+    {
+        self.set.get_index_of(&Named { var })
     }
 
     /// Puts the name last, where it is not one of these.

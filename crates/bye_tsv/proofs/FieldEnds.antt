@@ -4,11 +4,13 @@ use Rattle.bye_terms.specs.Literals.{is_lang_string}
 use Rattle.bye_terms.specs.declared.term.Term.{Term}
 use Rattle.bye_lex.specs.IriSteps as iri
 use Rattle.bye_lex.specs.LabelSteps as label
+use Rattle.bye_lex.specs.NumberSteps as number
 use Rattle.bye_lex.specs.StringSteps as string
 use Rattle.bye_lex.specs.TagSteps as tag
 use Rattle.bye_lex.specs.Strings.{around, has_quoting}
 use Rattle.bye_lex.specs.declared.iri.IriAt.TheVariants as iris
 use Rattle.bye_lex.specs.declared.label.LabelAt.TheVariants as labels
+use Rattle.bye_lex.specs.declared.number.NumberAt.TheVariants as numbers
 use Rattle.bye_lex.specs.declared.quoting.Quote.TheVariants as quotes
 use Rattle.bye_lex.specs.declared.quoting.Quoting.{Quoting}
 use Rattle.bye_lex.specs.declared.quoting.Quoting.TheVariants as quotings
@@ -21,19 +23,18 @@ use Rattle.bye_lex.proofs.IriExact.{iri_exact}
 use Rattle.bye_lex.proofs.IriMeaning as iri_meant
 use Rattle.bye_lex.proofs.LabelExact as label_exactly
 use Rattle.bye_lex.proofs.Machines.{bind_some}
+use Rattle.bye_lex.proofs.NumberExact.{number_exact}
 use Rattle.bye_lex.proofs.StringExact.{string_exact}
 use Rattle.bye_lex.proofs.StringMeaning as string_meant
 use Rattle.bye_lex.proofs.TagExact as tag_exactly
-use Rattle.bye_tsv.specs.FieldSteps.{step, final, number_kind, word_step, word_value, typed}
+use Rattle.bye_tsv.specs.FieldSteps.{step, final, word_step, word_value, typed}
 use Rattle.bye_tsv.specs.Fields.{string_of, typed_of, word_of, Suffix, TermText}
 use Rattle.bye_tsv.specs.Numbers.{number_of}
 use Rattle.bye_tsv.specs.declared.field.FieldAt.{FieldAt}
 use Rattle.bye_tsv.specs.declared.field.FieldAt.TheVariants.{Empty, Iri, Label, String, Tag, Caret, Datatype, Number, Word}
-use Rattle.bye_tsv.specs.declared.number.NumberAt.TheVariants as numbers
 use Rattle.bye_tsv.specs.declared.word.WordAt.TheVariants as words
 use Rattle.bye_tsv.proofs.FieldExact.{AfterString, FieldLeft, GoodField, iri_cell, label_cell, tag_cell, word_cell}
 use Rattle.bye_tsv.proofs.FieldTokens.{token_ends, token_may_end}
-use Rattle.bye_tsv.proofs.NumberExact.{number_exact}
 use Rattle.bye_tsv.proofs.WordExact.{WordLeft, word_exact}
 
 -- no term is spelled with nothing
@@ -96,7 +97,7 @@ may_end (Datatype lexical at) cell e =
     let t = typed_is lexical k.0 cell k.2 in
     record { datatype = k.0; token = (iri_exact Tsv).may_end at k.0 k.1; untagged = t.0; is = t.1 }
 may_end (Number at out) cell e =
-    let k = mapped (λ kind. Some (number_of kind out)) (number_kind at) cell e in
+    let k = mapped (λ kind. Some (number_of kind out)) (number.form at) cell e in
     record { kind = k.0; token = number_exact.may_end at k.0 k.1; is = sym k.2 ∙ ap (λ text. Some (number_of k.0 text)) (sym (append-nil out)) }
 may_end (Word at) cell e = token_may_end WordLeft word_step word_value word_exact word_cell at cell e
 

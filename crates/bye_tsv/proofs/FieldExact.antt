@@ -1,6 +1,5 @@
 -- The machine of fields reads them.
 use Rattle.std.proofs.Common.{◌≡◌, refl, ℕ, Bool, true, false, cond, ◌==◌, ◌||◌, List, [], ◌∷◌, ◌++◌, Option, Some, None, option_map, option_and_then, ◌⊎◌, inl, inr, ⊎_elim, sym, ◌∙◌, ap, subst, codes, append-nil}
-use Rattle.bye_terms.specs.Characters.{is_digit}
 use Rattle.bye_terms.specs.Literals.{is_lang_string}
 use Rattle.bye_terms.specs.declared.term.Term.{Term}
 use Rattle.bye_terms.specs.declared.term.Term.TheVariants as terms
@@ -8,12 +7,16 @@ use Rattle.bye_lex.specs.Iris.{IriToken, IriLetter}
 use Rattle.bye_lex.specs.IriSteps as iri
 use Rattle.bye_lex.specs.LabelSteps as label
 use Rattle.bye_lex.specs.Languages.{Viable}
+use Rattle.bye_lex.specs.NumberSteps as number
 use Rattle.bye_lex.specs.StringSteps as string
 use Rattle.bye_lex.specs.TagSteps as tag
 use Rattle.bye_lex.specs.Strings.{around, has_quoting, mark_of}
 use Rattle.bye_lex.specs.declared.iri.IriAt.{IriAt}
 use Rattle.bye_lex.specs.declared.iri.IriAt.TheVariants as iris
 use Rattle.bye_lex.specs.declared.label.LabelAt.TheVariants as labels
+use Rattle.bye_lex.specs.declared.number.Number.{Number as NumberKind}
+use Rattle.bye_lex.specs.declared.number.NumberAt.{NumberAt}
+use Rattle.bye_lex.specs.declared.number.NumberAt.TheVariants as numbers
 use Rattle.bye_lex.specs.declared.quoting.Quote.{Quote}
 use Rattle.bye_lex.specs.declared.quoting.Quote.TheVariants as quotes
 use Rattle.bye_lex.specs.declared.quoting.Quoting.{Quoting}
@@ -22,31 +25,28 @@ use Rattle.bye_lex.specs.declared.string.StringAt.{StringAt}
 use Rattle.bye_lex.specs.declared.string.StringAt.TheVariants as strings
 use Rattle.bye_lex.specs.declared.style.Style.TheVariants.{Tsv}
 use Rattle.bye_lex.specs.declared.tag.TagAt.TheVariants as tags
-use Rattle.bye_lex.proofs.Branches.{heads, mapped, never, none_some, pick_of, same_eqb, scalars_join, eqb_same, snoc, some_same, unless, when, chosen}
+use Rattle.bye_lex.proofs.Branches.{heads, mapped, neither, never, none_some, pick_of, same_eqb, scalars_join, eqb_same, snoc, some_same, unless, when, chosen}
 use Rattle.bye_lex.proofs.Embedding.{Onward, Upto, open_forth, open_back, open_gives}
 use Rattle.bye_lex.proofs.IriExact.{iri_exact}
 use Rattle.bye_lex.proofs.IriExact as iri_exactly
 use Rattle.bye_lex.proofs.IriMeaning as iri_meant
 use Rattle.bye_lex.proofs.LabelExact as label_exactly
 use Rattle.bye_lex.proofs.Machines.{Machine, bind_some}
+use Rattle.bye_lex.proofs.NumberExact.{NumberLeft, number_exact, begins_number, first_number}
+use Rattle.bye_lex.proofs.NumberExact as number_exactly
 use Rattle.bye_lex.proofs.StringExact.{string_exact}
 use Rattle.bye_lex.proofs.StringExact as string_exactly
 use Rattle.bye_lex.proofs.StringMeaning as string_meant
 use Rattle.bye_lex.proofs.TagExact as tag_exactly
-use Rattle.bye_tsv.specs.FieldSteps.{step, begin, after_string, datatype_at, in_datatype, in_number, number_step, word_step, word_value}
+use Rattle.bye_tsv.specs.FieldSteps.{step, begin, after_string, datatype_at, in_datatype, in_number, word_step, word_value}
 use Rattle.bye_tsv.specs.Fields.{string_of, tagged_of, typed_of, boolean_of, word_of, Tagged, Typed, Suffix, TermText, Field}
-use Rattle.bye_tsv.specs.Numbers.{is_sign, number_of}
+use Rattle.bye_tsv.specs.Numbers.{number_of}
 use Rattle.bye_tsv.specs.declared.field.FieldAt.{FieldAt}
 use Rattle.bye_tsv.specs.declared.field.FieldAt.TheVariants.{Empty, Iri, Label, String, Tag, Caret, Datatype, Number, Word}
-use Rattle.bye_tsv.specs.declared.number.NumberAt.{NumberAt}
-use Rattle.bye_tsv.specs.declared.number.NumberAt.TheVariants as numbers
-use Rattle.bye_tsv.specs.declared.number.NumberKind.{NumberKind}
 use Rattle.bye_tsv.specs.declared.word.WordAt.TheVariants as words
 use Rattle.bye_tsv.proofs.Datatypes.{untagged}
 use Rattle.bye_tsv.proofs.FieldTokens.{Stands, token_forth, token_back, token_can, token_leads}
 use Rattle.bye_tsv.proofs.ShortStrings.{is_short, next_short}
-use Rattle.bye_tsv.proofs.NumberExact.{NumberLeft, number_exact}
-use Rattle.bye_tsv.proofs.NumberExact as number_exactly
 use Rattle.bye_tsv.proofs.WordExact.{WordLeft, word_exact}
 use Rattle.bye_tsv.proofs.WordExact as word_exactly
 
@@ -258,7 +258,7 @@ number_forth at out c t cell h =
 
 number_back : (at : NumberAt) (out : List ℕ) (n : FieldAt) (c : ℕ) (t : List ℕ) (cell : Option Term) → in_number at out c ≡ Some n → FieldLeft n t cell → InNumber at out (c ∷ t) cell
 number_back at out n c t cell e h =
-    let k = mapped (λ n. Number n (out ++ c ∷ [])) (number_step at c) n e in
+    let k = mapped (λ n. Number n (out ++ c ∷ [])) (number.step at c) n e in
     let w : InNumber k.0 (out ++ c ∷ []) t cell = subst (λ n. FieldLeft n t cell) (sym k.2) h in
     record { kind = w.kind; token = number_exact.back at k.0 c t w.kind (number_exactly.can at) k.1 w.token; is = w.is ∙ ap (λ text. Some (number_of w.kind text)) (sym (snoc out t c)) }
 
@@ -268,22 +268,6 @@ word_on true c t e = let k = heads c 116 t (codes "rue") e in (Word words.T, ap 
 word_on false c t e = let k = heads c 102 t (codes "alse") e in (Word words.F, ap begin k.0, (false, (k.1, refl), refl))
 
 -- the first character of a field
-abbrev begins_number : ℕ → Bool
-begins_number c = is_sign c || (is_digit c || c == 46)
-
-begun : (c : ℕ) (n : NumberAt) → number_step numbers.Start c ≡ Some n → begins_number c ≡ true
-begun c n e = go (is_sign c) (is_digit c) (c == 46) e
-  where
-    go : (s d p : Bool) → cond s (Some numbers.Signed) (cond d (Some numbers.Whole) (cond p (Some (numbers.Point false)) None)) ≡ Some n → (s || (d || p)) ≡ true
-    go true d p e = refl
-    go false true p e = refl
-    go false false true e = refl
-    go false false false e = none_some e
-
-neither : (a b : Bool) → a ≡ false → b ≡ false → (a || b) ≡ false
-neither true b e f = cc
-neither false b e f = f
-
 number_on : (c : ℕ) → begins_number c ≡ true → begin c ≡ in_number numbers.Start [] c
 number_on c h =
     let no : (d : ℕ) → begins_number d ≡ false → (c == d) ≡ false = λ d f. never begins_number d c f h in
@@ -314,8 +298,7 @@ begin_forth c t cell (inr k) = subst (λ w. Next Empty c t w) (sym k.is) (go k.t
         (n.0, ap begin e ∙ b.4 ∙ ap (step (String strings.Start)) (sym e) ∙ n.1, n.2)
     go term (inr (inr (inr (inl h)))) =
         let n = number_forth numbers.Start [] c t (Some term) (record { kind = h.kind; token = h.token; is = ap Some h.is }) in
-        let m = number_exact.forth numbers.Start c t h.kind h.token in
-        (n.0, number_on c (begun c m.0 m.1) ∙ n.1, n.2)
+        (n.0, number_on c (first_number h.kind c t h.token) ∙ n.1, n.2)
     go term (inr (inr (inr (inr h)))) = subst (λ w. Next Empty c t w) (ap Some (sym h.is)) (word_on h.value c t h.token)
 
 filled : (text : List ℕ) (cell : Option Term) (term : Term) → TermText text term → cell ≡ Some term → Field text cell
@@ -396,7 +379,7 @@ string_leads at n c g e =
     (open_gives (string_meant.Left Tsv) (string.step Tsv) string.final (string_exact Tsv) (λ (v t : List ℕ) (w : Unit {0}). Unit {0}) (λ (n : FieldAt) (t : List ℕ) (w : Unit {0}). Unit {0}) String after_string at c n e)
 
 number_leads : (at : NumberAt) (out : List ℕ) (n : FieldAt) (c : ℕ) → in_number at out c ≡ Some n → GoodField n
-number_leads at out n c e = let k = mapped (λ n. Number n (out ++ c ∷ [])) (number_step at c) n e in subst GoodField k.2 tt
+number_leads at out n c e = let k = mapped (λ n. Number n (out ++ c ∷ [])) (number.step at c) n e in subst GoodField k.2 tt
 
 begin_leads : (n : FieldAt) (c : ℕ) → begin c ≡ Some n → GoodField n
 begin_leads n c e = go (first_is c n e)

@@ -12,6 +12,7 @@ use Rattle.bye_lex.specs.IriSteps as iri
 use Rattle.bye_lex.specs.Kept.{width, size, iri_kept, label_kept, name_kept, string_kept, tag_kept}
 use Rattle.bye_lex.specs.LabelSteps as label
 use Rattle.bye_lex.specs.NameSteps as name
+use Rattle.bye_lex.specs.NumberSteps as number
 use Rattle.bye_lex.specs.Running.{run}
 use Rattle.bye_lex.specs.StringSteps as string
 use Rattle.bye_lex.specs.TagSteps as tag
@@ -21,6 +22,10 @@ use Rattle.bye_lex.specs.declared.label.LabelAt.{LabelAt}
 use Rattle.bye_lex.specs.declared.label.LabelAt.TheVariants as labels
 use Rattle.bye_lex.specs.declared.name.NameAt.{NameAt}
 use Rattle.bye_lex.specs.declared.name.NameAt.TheVariants as names
+use Rattle.bye_lex.specs.declared.number.Number.{Number as NumberKind}
+use Rattle.bye_lex.specs.declared.number.Number.TheVariants as kinds
+use Rattle.bye_lex.specs.declared.number.NumberAt.{NumberAt}
+use Rattle.bye_lex.specs.declared.number.NumberAt.TheVariants as number_at
 use Rattle.bye_lex.specs.declared.string.StringAt.{StringAt}
 use Rattle.bye_lex.specs.declared.string.StringAt.TheVariants as strings
 use Rattle.bye_lex.specs.declared.style.Style.TheVariants.{Tsv}
@@ -41,10 +46,6 @@ use Rattle.bye_tsv.specs.Reading.{ReadingAt, taken}
 use Rattle.bye_tsv.specs.declared.fault.Bounds.{Bounds}
 use Rattle.bye_tsv.specs.declared.field.FieldAt.{FieldAt}
 use Rattle.bye_tsv.specs.declared.field.FieldAt.TheVariants.{Empty, Iri, Label, String, Tag, Caret, Datatype, Number, Word}
-use Rattle.bye_tsv.specs.declared.number.NumberAt.{NumberAt}
-use Rattle.bye_tsv.specs.declared.number.NumberAt.TheVariants as number_at
-use Rattle.bye_tsv.specs.declared.number.NumberKind.{NumberKind}
-use Rattle.bye_tsv.specs.declared.number.NumberKind.TheVariants as kinds
 use Rattle.bye_tsv.specs.declared.place.Place.{Place}
 use Rattle.bye_tsv.specs.declared.place.Place.TheVariants.{Start, Mark, Name as InName, HeaderReturn, Begin, Field, Return}
 use Rattle.bye_tsv.specs.declared.word.WordAt.{WordAt}
@@ -113,7 +114,7 @@ in_datatype_within lexical at n c e =
         by false e = some_same e
 
 in_number_within : (at : NumberAt) (text : List ℕ) (n : FieldAt) (c : ℕ) → field.in_number at text c ≡ Some n → field_kept n ≤ size text + width c
-in_number_within at text n c e = part_within (λ n. Number n (text ++ c ∷ [])) (size text + width c) (field.number_step at c) n (λ s i. let m = size_more text c in omega (arith, m)) e
+in_number_within at text n c e = part_within (λ n. Number n (text ++ c ∷ [])) (size text + width c) (number.step at c) n (λ s i. let m = size_more text c in omega (arith, m)) e
 
 begin_within : (n : FieldAt) (c : ℕ) → field.begin c ≡ Some n → field_kept n ≤ 0 + width c
 begin_within n c e =
@@ -224,7 +225,7 @@ cell_within (Datatype lexical at) cell e =
     by true t e = none_some e
     by false t e = some_same e
 cell_within (Number at text) cell e =
-    let m = mapped (λ kind. Some (number_of kind text)) (field.number_kind at) cell e in
+    let m = mapped (λ kind. Some (number_of kind text)) (number.form at) cell e in
     subst (λ c. cell_kept c ≤ size text) m.2 (added_within text (datatype_of m.0) (number_added m.0))
 cell_within (Word at) cell e =
     let m = mapped (λ value. Some (boolean_of value)) (field.word_value at) cell e in

@@ -1,4 +1,3 @@
-pub mod NumberExact
 pub mod WordExact
 pub mod Datatypes
 pub mod ShortStrings

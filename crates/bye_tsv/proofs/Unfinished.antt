@@ -7,7 +7,7 @@ use Rattle.std.specs.Char.{encode_utf8}
 use Rattle.std.specs.Str.{encode_utf8_all, all_scalars}
 use Rattle.bye_terms.proofs.Tests.{bool_cases, both_parts}
 use Rattle.bye_lex.specs.Utf8.{BeginsCharacter}
-use Rattle.bye_lex.proofs.Branches.{eqb_same}
+use Rattle.bye_lex.proofs.Branches.{eqb_same, neither}
 use Rattle.bye_lex.proofs.Encodings.{encode_one, encode_two, encode_three, encode_four}
 use Rattle.bye_lex.proofs.Utf8Laws.{begins_none}
 use Rattle.bye_tsv.specs.Feeding.{HasCome}
@@ -19,10 +19,6 @@ use Rattle.bye_lex.proofs.Fronts.{Longer, back_scalars, split}
 -- characters
 high : (b : ℕ) → 128 ≤ b → (b == 10) ≡ false
 high b h = grind arith
-
-neither : (x y : Bool) → x ≡ false → y ≡ false → (x || y) ≡ false
-neither false y e f = f
-neither true y e f = cc
 
 parts_of : (x y : Bool) → (x || y) ≡ false → (x ≡ false) × (y ≡ false)
 parts_of false y e = (refl, e)

@@ -1,62 +1,29 @@
--- The machines of numbers, of words and of fields.
+-- The machines of words and of fields.
 use Rattle.std.specs.Prelude.{ℕ, Bool, true, false, cond, ◌==◌, ◌||◌, List, [], ◌∷◌, ◌++◌, Option, Some, None, option_map, option_and_then}
-use Rattle.bye_terms.specs.Characters.{is_digit}
 use Rattle.bye_terms.specs.Literals.{is_lang_string}
 use Rattle.bye_terms.specs.declared.term.Term.{Term}
 use Rattle.bye_terms.specs.declared.term.Term.TheVariants as terms
 use Rattle.bye_lex.specs.Embedding.{in_open}
 use Rattle.bye_lex.specs.IriSteps as iri
 use Rattle.bye_lex.specs.LabelSteps as label
+use Rattle.bye_lex.specs.NumberSteps as number
 use Rattle.bye_lex.specs.StringSteps as string
 use Rattle.bye_lex.specs.TagSteps as tag
 use Rattle.bye_lex.specs.declared.iri.IriAt.{IriAt}
 use Rattle.bye_lex.specs.declared.iri.IriAt.TheVariants as iris
 use Rattle.bye_lex.specs.declared.label.LabelAt.TheVariants as labels
+use Rattle.bye_lex.specs.declared.number.NumberAt.{NumberAt}
+use Rattle.bye_lex.specs.declared.number.NumberAt.TheVariants as numbers
 use Rattle.bye_lex.specs.declared.string.StringAt.{StringAt}
 use Rattle.bye_lex.specs.declared.string.StringAt.TheVariants as strings
 use Rattle.bye_lex.specs.declared.style.Style.TheVariants.{Tsv}
 use Rattle.bye_lex.specs.declared.tag.TagAt.TheVariants as tags
 use Rattle.bye_tsv.specs.Fields.{string_of, tagged_of, typed_of, boolean_of}
-use Rattle.bye_tsv.specs.Numbers.{is_sign, is_exponent_mark, number_of}
+use Rattle.bye_tsv.specs.Numbers.{number_of}
 use Rattle.bye_tsv.specs.declared.field.FieldAt.{FieldAt}
 use Rattle.bye_tsv.specs.declared.field.FieldAt.TheVariants.{Empty, Iri, Label, String, Tag, Caret, Datatype, Number, Word}
-use Rattle.bye_tsv.specs.declared.number.NumberAt.{NumberAt}
-use Rattle.bye_tsv.specs.declared.number.NumberAt.TheVariants.{Start, Signed, Whole, Point, Fraction, Exponent, ExponentSign, ExponentDigits}
-use Rattle.bye_tsv.specs.declared.number.NumberKind.{NumberKind}
-use Rattle.bye_tsv.specs.declared.number.NumberKind.TheVariants.{Integer, Decimal, Double}
 use Rattle.bye_tsv.specs.declared.word.WordAt.{WordAt}
 use Rattle.bye_tsv.specs.declared.word.WordAt.TheVariants.{T, Tr, Tru, True, F, Fa, Fal, Fals, False}
-
--- after the sign of a number
-abbrev pub unsigned : ℕ → Option NumberAt
-unsigned c = cond (is_digit c) (Some Whole) (cond (c == 46) (Some (Point false)) None)
-
--- the mark of an exponent; `some` where a digit stands before it
-abbrev pub scaled : Bool → ℕ → Option NumberAt
-scaled true c = cond (is_exponent_mark c) (Some Exponent) None
-scaled false c = None
-
--- one character more of a number
-abbrev pub number_step : NumberAt → ℕ → Option NumberAt
-number_step Start c = cond (is_sign c) (Some Signed) (unsigned c)
-number_step Signed c = unsigned c
-number_step Whole c = cond (is_digit c) (Some Whole) (cond (c == 46) (Some (Point true)) (scaled true c))
-number_step (Point some) c = cond (is_digit c) (Some Fraction) (scaled some c)
-number_step Fraction c = cond (is_digit c) (Some Fraction) (scaled true c)
-number_step Exponent c = cond (is_sign c) (Some ExponentSign) (cond (is_digit c) (Some ExponentDigits) None)
-number_step ExponentSign c = cond (is_digit c) (Some ExponentDigits) None
-number_step ExponentDigits c = cond (is_digit c) (Some ExponentDigits) None
-
--- the kind of what was read, where it is a number
-abbrev pub number_kind : NumberAt → Option NumberKind
-number_kind Start = None
-number_kind Signed = None
-number_kind Whole = Some Integer
-number_kind (Point some) = None
-number_kind Fraction = Some Decimal
-number_kind Exponent = None
-number_kind ExponentSign = None
-number_kind ExponentDigits = Some Double
 
 -- one character more of a word
 abbrev pub word_step : WordAt → ℕ → Option WordAt
@@ -87,7 +54,7 @@ abbrev pub in_iri : IriAt → ℕ → Option FieldAt
 in_iri at c = option_map Iri (iri.step Tsv at c)
 
 abbrev pub in_number : NumberAt → List ℕ → ℕ → Option FieldAt
-in_number at text c = option_map (λ n. Number n (text ++ c ∷ [])) (number_step at c)
+in_number at text c = option_map (λ n. Number n (text ++ c ∷ [])) (number.step at c)
 
 -- after a string
 abbrev pub after_string : List ℕ → ℕ → Option FieldAt
@@ -109,7 +76,7 @@ in_datatype lexical at c = option_and_then (λ n. datatype_at lexical n (iri.fin
 abbrev pub begin : ℕ → Option FieldAt
 begin c =
     cond (c == 60) (Some (Iri iris.Opened)) (cond (c == 95) (Some (Label labels.Underscore)) (cond (c == 34 || c == 39) (in_string strings.Start c)
-    (cond (c == 116) (Some (Word T)) (cond (c == 102) (Some (Word F)) (in_number Start [] c)))))
+    (cond (c == 116) (Some (Word T)) (cond (c == 102) (Some (Word F)) (in_number numbers.Start [] c)))))
 
 -- one character more of a field
 abbrev pub step : FieldAt → ℕ → Option FieldAt
@@ -136,5 +103,5 @@ final (String at) = option_map (λ v. Some (string_of v)) (string.final at)
 final (Tag lexical at) = option_map (λ v. Some (tagged_of lexical v)) (tag.final at)
 final (Caret lexical) = None
 final (Datatype lexical at) = option_and_then (typed lexical) (iri.final at)
-final (Number at text) = option_map (λ kind. Some (number_of kind text)) (number_kind at)
+final (Number at text) = option_map (λ kind. Some (number_of kind text)) (number.form at)
 final (Word at) = option_map (λ value. Some (boolean_of value)) (word_value at)

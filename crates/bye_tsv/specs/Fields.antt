@@ -6,10 +6,11 @@ use Rattle.bye_terms.specs.declared.term.Term.{Term}
 use Rattle.bye_terms.specs.declared.term.Term.TheVariants.{Iri, Blank, Lit}
 use Rattle.bye_lex.specs.Iris.{IriToken}
 use Rattle.bye_lex.specs.Marks.{LabelToken, TagToken}
+use Rattle.bye_lex.specs.Numbers.{is_number}
 use Rattle.bye_lex.specs.Strings.{StringToken}
+use Rattle.bye_lex.specs.declared.number.Number.{Number}
 use Rattle.bye_lex.specs.declared.style.Style.TheVariants.{Tsv}
-use Rattle.bye_tsv.specs.Numbers.{is_number, number_of}
-use Rattle.bye_tsv.specs.declared.number.NumberKind.{NumberKind}
+use Rattle.bye_tsv.specs.Numbers.{number_of}
 
 -- a string without tag and datatype is an xsd:string
 abbrev pub string_of : List ℕ → Term
@@ -72,7 +73,7 @@ pub record StringTerm (text : List ℕ) (term : Term) : Type 0 where
   pub spelled : text ≡ own ++ rest
 
 pub record NumberTerm (text : List ℕ) (term : Term) : Type 0 where
-  pub kind : NumberKind
+  pub kind : Number
   pub token : is_number kind text ≡ true
   pub is : term ≡ number_of kind text
 

@@ -14,7 +14,7 @@ use Rattle.bye_tsv.specs.Numbers.{datatype_of}
 use Rattle.bye_tsv.specs.Reading.{ReadingAt}
 use Rattle.bye_tsv.specs.declared.field.FieldAt.{FieldAt}
 use Rattle.bye_tsv.specs.declared.field.FieldAt.TheVariants as fields
-use Rattle.bye_tsv.specs.declared.number.NumberKind.TheVariants.{Integer, Decimal, Double}
+use Rattle.bye_lex.specs.declared.number.Number.TheVariants.{Integer, Decimal, Double}
 use Rattle.bye_tsv.specs.declared.pieces.State.{State}
 use Rattle.bye_tsv.specs.declared.pieces.State.TheVariants as states
 use Rattle.bye_tsv.specs.declared.place.Place.{Place}

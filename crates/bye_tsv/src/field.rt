@@ -7,9 +7,9 @@ ghost use Rattle.bye_tsv.specs.Kept.{field_kept};
 ghost use Rattle.bye_lex.specs.declared.iri.IriAt.TheVariants as iris;
 ghost use Rattle.std.specs.Prelude.{◌≡◌, ◌<◌, ◌^◌, ℕ, List, IfOk, Some, is_some};
 
-use crate::number::{NumberAt, number};
+use crate::number::number;
 use crate::word::{WordAt, boolean};
-use bye_lex::{IriAt, LabelAt, Machine, Stepped, StringAt, Style, TagAt, size};
+use bye_lex::{IriAt, LabelAt, Machine, NumberAt, Scanner, Stepped, StringAt, Style, TagAt, size};
 use bye_terms::{Cursor, Iri, Literal, Memory, Tag, Term, Text};
 use std::alloc::Global;
 
@@ -188,7 +188,7 @@ fn datatype_at_end(lexical: Text, at: IriAt) -> Option<Option<Term>>
 fn number_at_end(alloc: Global, at: NumberAt, text: Text) -> Result<Option<Option<Term>>, Memory>
     ensures { IfOk result (λ o. o ≡ spec.final (FieldAt.Number at text)) }
 {
-    match at.kind() {
+    match at.form() {
         Some(kind) => Ok(Some(Some(number(alloc, kind, text)?))),
         None => Ok(None),
     }
@@ -275,7 +275,7 @@ impl FieldAt {
             FieldAt::Tag(_, at) => matches!(at, TagAt::Letters(_) | TagAt::Subtag(_)),
             FieldAt::Caret(_) => false,
             FieldAt::Datatype(_, at) => is_whole_datatype(at),
-            FieldAt::Number(at, _) => at.kind().is_some(),
+            FieldAt::Number(at, _) => at.form().is_some(),
             FieldAt::Word(at) => at.value().is_some(),
         }
     }

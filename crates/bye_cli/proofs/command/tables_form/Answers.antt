@@ -1,4 +1,4 @@
-use Rattle.std.proofs.Common.{◌≡◌, refl, codes, inl, inr, subst}
+use Rattle.std.proofs.Common.{refl, codes, inl, inr, subst}
 use Rattle.bye_terms.specs.Members.{In}
 use Rattle.bye_terms.proofs.Texts.{ascii_chars}
 use Rattle.bye_words.specs.Forms.{names_in}

@@ -1,4 +1,4 @@
-use Rattle.std.proofs.Common.{◌≡◌, refl, ◌<◌, length, Bool, false, ◌==◌, List, inl, inr, subst, arith}
+use Rattle.std.proofs.Common.{◌≡◌, refl, ◌<◌, length, Bool, false, ◌==◌, List, inl, inr, sym, subst, arith}
 use Rattle.std.proofs.lemmas.Result.{err_from_is_err_and}
 use Rattle.std.specs.List.{AllByRecursion}
 use Rattle.bye_terms.specs.Terms.{IsTriple, Statement}
@@ -8,7 +8,8 @@ use Rattle.bye_cli.specs.Words.{Learn}
 use Rattle.bye_cli.specs.Problem.{IsGiven, IsAsked, IsWritten}
 use Rattle.bye_cli.specs.Causes.{IsUnread}
 use Rattle.bye_words.specs.declared.role.Role.TheVariants.{Wanted}
-use Rattle.bye_cli.proofs.Asked.{is_read, is_answer}
+use Rattle.bye_cli.proofs.Asked.{is_answer}
+use Rattle.bye_cli.proofs.Learned.{held_triples}
 use Rattle.bye_cli.proofs.Unread.{reached_unread}
 use Rattle.bye_cli.proofs.learning.learned.Goals as goal
 
@@ -33,7 +34,7 @@ returns-in_err-answer-clause-cause g c = let p = err_from_is_err_and c.from_resi
 pub returns-clause-answer : goal.returns-clause-answer
 returns-clause-answer g c =
     let wanted_held = subst (λ (files : Files). HasVerdict files (OfTable Wanted c.args.tables, c.args.wanted_name.now) (Good (Rows c.in_ok-wanted.wanted))) c.in_ok-graph.ensures.files c.in_ok-wanted.ensures.read in
-    let written = subst (λ (graph : List Statement). AllByRecursion IsTriple graph → IsWritten graph c.in_ok-wanted.wanted c.in_ok-answer.answer.ending c.in_ok-answer.answer.bytes.items) c.as_slice.ensures.value c.in_ok-answer.ensures in
+    let written = subst (λ (graph : List Statement). IsWritten graph c.in_ok-wanted.wanted c.in_ok-answer.answer.ending c.in_ok-answer.answer.bytes.items) c.as_slice.ensures.value c.in_ok-answer.ensures in
     let row : 0 < length c.in_ok-wanted.wanted.rows = subst (λ (rows : List Pairs). 0 < length rows) c.rows.ensures.rows (not_empty c.rows.result.now c.is_empty.result c.is_empty.ensures c.if-is_empty.false) in
     λ words is.
     let given : IsGiven (g.F.Folder.files c.args.folder.now) words c.in_ok-graph.graph.items c.in_ok-wanted.wanted = record {
@@ -45,4 +46,7 @@ returns-clause-answer g c =
       wanted_held = wanted_held;
     } in
     let asked : IsAsked (g.F.Folder.files c.args.folder.now) words c.in_ok-graph.graph.items c.in_ok-wanted.wanted = record { given = given; some_row = row } in
-    is_answer _ _ _ _ c.in_ok-answer.answer.ending c.in_ok-answer.answer.bytes.items asked (written (is_read _ _ _ _ asked))
+    is_answer _ _ _ _ c.in_ok-answer.answer.ending c.in_ok-answer.answer.bytes.items asked written
+
+pub written-requires-clause-triples : goal.written-requires-clause-triples
+written-requires-clause-triples g c = subst (AllByRecursion IsTriple) (sym c.as_slice.ensures.value) (held_triples _ _ c.in_ok-graph.graph.items c.in_ok-graph.ensures.read)

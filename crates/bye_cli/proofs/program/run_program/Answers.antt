@@ -3,7 +3,7 @@ use Rattle.bye_io.specs.Counts.{Rose}
 use Rattle.bye_cli.specs.Messages.{IsMessage}
 use Rattle.bye_words.specs.declared.status.Status.{Status}
 use Rattle.bye_cli.proofs.Exclusive.{Faults, Past, Missing, Bare}
-use Rattle.bye_cli.proofs.Settled.{Run, words_alone, settled, answered, headline, conversion, is_document, is_limit, is_refused, message}
+use Rattle.bye_cli.proofs.Settled.{Run, words_alone, settled, answered, headline, conversion, is_done, is_document, is_limit, is_refused, is_write_fault, message}
 use Rattle.bye_cli.proofs.program.run_program.Given.{Over}
 use Rattle.bye_cli.proofs.program.run_program.Goals as goal
 
@@ -34,6 +34,12 @@ returns-clause-err g c =
 
 pub returns-clause-words : goal.returns-clause-words
 returns-clause-words g c = words_alone _ _ _ _ _ _ _ _ c.perform-outcome.result (run_of g c) c.report.result c.report.ensures.status
+
+pub returns-clause-done : goal.returns-clause-done
+returns-clause-done g c = λ e. c.perform-outcome.ensures.done (is_done c.perform-outcome.result (sym c.report.ensures.status ∙ e))
+
+pub returns-clause-write_fault : goal.returns-clause-write_fault
+returns-clause-write_fault g c = λ e. c.perform-outcome.ensures.write_fault (is_write_fault c.perform-outcome.result (sym c.report.ensures.status ∙ e))
 
 pub returns-clause-refused : goal.returns-clause-refused
 returns-clause-refused g c = λ e. c.perform-outcome.ensures.refused (is_refused c.perform-outcome.result (sym c.report.ensures.status ∙ e))

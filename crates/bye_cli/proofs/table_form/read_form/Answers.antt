@@ -1,4 +1,4 @@
-use Rattle.std.proofs.Common.{◌≡◌, refl, codes, sym, ◌∙◌, ⊎_elim}
+use Rattle.std.proofs.Common.{refl, codes, sym, ◌∙◌, ⊎_elim}
 use Rattle.bye_terms.proofs.Texts.{ascii_chars}
 use Rattle.bye_terms.proofs.Tests.{not_both}
 use Rattle.bye_cli.proofs.table_form.read_form.Goals as goal

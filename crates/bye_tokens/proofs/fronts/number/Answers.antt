@@ -1,6 +1,6 @@
 use Rattle.std.proofs.Common.{◌∙◌}
-use Rattle.bye_tokens.specs.NumberSteps.{step, form}
-use Rattle.bye_tokens.specs.declared.number.NumberAt.TheVariants.{Start}
+use Rattle.bye_lex.specs.NumberSteps.{step, form}
+use Rattle.bye_lex.specs.declared.number.NumberAt.TheVariants.{Start}
 use Rattle.bye_tokens.proofs.Ending.{found_ends_at}
 use Rattle.bye_tokens.proofs.fronts.number.Goals as goal
 

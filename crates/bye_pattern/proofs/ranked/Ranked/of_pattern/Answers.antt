@@ -6,6 +6,6 @@ use Rattle.bye_pattern.proofs.ranked.Ranked.of_pattern.Goals as goal
 
 pub invariant_of-result : goal.invariant_of-result
 invariant_of-result c = (
-  c.count_variables-variables.ensures ∙ (λ i. variable_count (c.s.ensures i) (c.p.ensures i) (c.o.ensures i)) ∙ counted c.args.pattern.s c.args.pattern.p c.args.pattern.o,
+  c.count_variables-variables.ensures ∙ (λ i. variable_count (c.s.ensures.value i) (c.p.ensures.value i) (c.o.ensures i)) ∙ counted c.args.pattern.s c.args.pattern.p c.args.pattern.o,
   c.in_ok-push_line.ensures ∙ ap (λ text. text ++ root_line c.args.pattern) c.new-line.ensures,
 )

@@ -1,0 +1,12 @@
+pub mod Numbers
+pub mod Looking
+pub mod Ends
+pub mod Rising
+pub mod Declaring
+pub mod Takes
+pub mod Rules
+pub mod Loops
+pub mod Depths
+pub mod Joining
+pub mod Answering
+pub mod Again

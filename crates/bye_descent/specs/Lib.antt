@@ -1,0 +1,9 @@
+pub mod KindViews
+pub mod Places
+pub mod Ending
+pub mod Told
+pub mod Declarations
+pub mod Opening
+pub mod Features
+pub mod Unknown
+pub mod Answer

@@ -1,0 +1,9 @@
+pub mod Joined
+pub mod Signs
+pub mod Keywords
+pub mod Strings
+pub mod Tags
+pub mod Terms
+pub mod Expressions
+pub mod Groups
+pub mod Queries
