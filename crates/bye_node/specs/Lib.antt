@@ -1,0 +1,4 @@
+pub mod Envs
+pub mod Pins
+pub mod Steps
+pub mod Conds
