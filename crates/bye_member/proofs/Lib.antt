@@ -1,0 +1,14 @@
+pub mod Storing
+pub mod Listed
+pub mod Valued
+pub mod Downing
+pub mod Planning
+pub mod Searching
+pub mod Taking
+pub mod Projecting
+pub mod Pinning
+pub mod Asking
+pub mod Walking
+pub mod Viewing
+pub mod Rowing
+pub mod Ends
