@@ -4,7 +4,7 @@ use Rattle.std.specs.List.{AllByRecursion}
 use Rattle.bye_terms.specs.Terms.{IsTriple, Statement}
 use Rattle.bye_table.specs.Tables.{TableValue}
 use Rattle.bye_words.specs.Pairs.{Word}
-use Rattle.bye_cli.specs.Words.{Learn, Convert, ConvertTable, IsSomeCommand}
+use Rattle.bye_cli.specs.Words.{Learn, Convert, ConvertTable, Run, IsSomeCommand}
 use Rattle.bye_cli.specs.Problem.{IsAsked, IsWritten, IsOutput, IsWrittenOf}
 use Rattle.bye_cli.specs.Documents.{Files, OfGraph, Triples, Good, Verdict, IsVerdict, graph_verdict}
 use Rattle.bye_ntriples.specs.Answers.{NtAnswer}
@@ -45,7 +45,8 @@ is_answer files words graph wanted Refused bytes asked written = (written.0, rec
 pub answer_command : (files : Files) (words : List Word) (ending : Ending) (bytes : List ℕ) → IsWrittenOf files words ending bytes → IsSomeCommand words
 answer_command files words Done bytes (inl h) = (Learn h.1.asked.given.graph_name h.1.asked.given.wanted_name h.1.asked.given.tables, h.1.asked.given.learn)
 answer_command files words Done bytes (inr (inl h)) = (Convert h.asked.graph_name, h.asked.convert)
-answer_command files words Done bytes (inr (inr h)) = (ConvertTable h.asked.table_name h.asked.from h.to, h.asked.convert)
+answer_command files words Done bytes (inr (inr (inl h))) = (ConvertTable h.asked.table_name h.asked.from h.to, h.asked.convert)
+answer_command files words Done bytes (inr (inr (inr h))) = (Run h.asked.graph_name h.asked.query_name h.form, h.asked.run)
 answer_command files words Refused bytes h = (Learn h.1.asked.given.graph_name h.1.asked.given.wanted_name h.1.asked.given.tables, h.1.asked.given.learn)
 
 -- and is an output

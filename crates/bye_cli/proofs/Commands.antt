@@ -5,9 +5,9 @@ use Rattle.bye_terms.specs.Members.{EachOnce, In}
 use Rattle.bye_terms.proofs.Lists.{map_in}
 use Rattle.bye_terms.proofs.Members.{all_in}
 use Rattle.bye_words.specs.Pairs.{Word, Setting, setting_words}
-use Rattle.bye_words.specs.Forms.{AreOf, Form, IsKnown, IsLine, convert, convert_table, learn, names_in}
+use Rattle.bye_words.specs.Forms.{AreOf, Form, IsKnown, IsLine, convert, convert_table, learn, names_in, run}
 use Rattle.bye_words.proofs.Pairs.{same_pairs, one_value}
-use Rattle.bye_cli.specs.Words.{Command, Convert, ConvertTable, HasTables, IsCommand, IsConvert, IsConvertTable, IsLearn, Learn, read_word, written_word}
+use Rattle.bye_cli.specs.Words.{Command, Convert, ConvertTable, HasForm, HasTables, IsCommand, IsConvert, IsConvertTable, IsLearn, IsRun, Learn, Run, read_word, written_word}
 use Rattle.bye_cli.specs.declared.table_form.TableForm.{TableForm}
 use Rattle.bye_cli.specs.declared.table_form.TableForm.TheVariants as read
 use Rattle.bye_cli.specs.declared.table_form.WrittenForm.{WrittenForm}
@@ -48,6 +48,12 @@ not_converts words h t from to a b =
     no_table a.settings t a.line.of_form
     (subst (λ (ss : List Setting). In ss (codes "--table", t)) (one_pairs words convert convert_table b.settings a.settings refl (sym b.line.parts) (sym a.line.parts)) b.table_named)
 
+-- `run` begins with another word than the others
+pub not_run : {X : Type 0} (words : List Word) (g q : Word) (a : WrittenForm) (form : Form) (settings : List Setting) (first : ℕ) → (first ≡ 114 → ⊥) → get_or form.command 0 0 ≡ first
+    → IsLine words form settings → IsRun words g q a → X
+not_run words g q a form settings first differ begins line b =
+    absurd (differ (sym begins ∙ ap (λ (ws : List Word). get_or (get_or ws 0 []) 0 0) (sym line.parts ∙ b.line.parts)))
+
 -- the words of forms are one
 read_words_one : (a b : TableForm) → read_word a ≡ read_word b → a ≡ b
 read_words_one read.Tsv read.Tsv e = refl
@@ -77,6 +83,13 @@ one_tables settings a b once (inl h) (inr k) = absurd (k.0 (named settings (code
 one_tables settings a b once (inr h) (inl k) = absurd (h.0 (named settings (codes "--tables") (read_word b) k))
 one_tables settings a b once (inr h) (inr k) = h.1 ∙ sym k.1
 
+-- and one form of answers
+one_form : (settings : List Setting) (a b : WrittenForm) → EachOnce (names_in settings) → HasForm settings a → HasForm settings b → a ≡ b
+one_form settings a b once (inl h) (inl k) = written_words_one a b (one_value settings (codes "--as") (written_word a) (written_word b) once h k)
+one_form settings a b once (inl h) (inr k) = absurd (k.0 (named settings (codes "--as") (written_word a) h))
+one_form settings a b once (inr h) (inl k) = absurd (h.0 (named settings (codes "--as") (written_word b) k))
+one_form settings a b once (inr h) (inr k) = h.1 ∙ sym k.1
+
 pub one_command : (words : List Word) (c d : Command) → IsCommand words c → IsCommand words d → c ≡ d
 one_command words (Learn g w t) (Learn h v u) a b =
     let graph = same_value words learn a.settings b.settings (codes "--graph") g h a.line b.line a.graph_named b.graph_named in
@@ -95,3 +108,14 @@ one_command words (ConvertTable g from to) (ConvertTable h from2 to2) a b =
     let source = read_words_one from from2 (same_value words convert_table a.settings b.settings (codes "--from") (read_word from) (read_word from2) a.line b.line a.from_named b.from_named) in
     let target = written_words_one to to2 (same_value words convert_table a.settings b.settings (codes "--to") (written_word to) (written_word to2) a.line b.line a.to_named b.to_named) in
     (λ i. ConvertTable (table i) (source i) (target i))
+one_command words (Run g q a) (Run h r b) x y =
+    let graph = same_value words run x.settings y.settings (codes "--graph") g h x.line y.line x.graph_named y.graph_named in
+    let query = same_value words run x.settings y.settings (codes "--query") q r x.line y.line x.query_named y.query_named in
+    let form = one_form x.settings a b x.line.of_form.once x.form_named (subst (λ (ss : List Setting). HasForm ss b) (sym (same_settings words run x.settings y.settings x.line y.line)) y.form_named) in
+    (λ i. Run (graph i) (query i) (form i))
+one_command words (Learn g w t) (Run h q b) x y = not_run words h q b learn x.settings 108 (λ e. omega (arith, e)) refl x.line y
+one_command words (Convert g) (Run h q b) x y = not_run words h q b convert x.settings 99 (λ e. omega (arith, e)) refl x.line y
+one_command words (ConvertTable g from to) (Run h q b) x y = not_run words h q b convert_table x.settings 99 (λ e. omega (arith, e)) refl x.line y
+one_command words (Run g q a) (Learn h v u) x y = not_run words g q a learn y.settings 108 (λ e. omega (arith, e)) refl y.line x
+one_command words (Run g q a) (Convert h) x y = not_run words g q a convert y.settings 99 (λ e. omega (arith, e)) refl y.line x
+one_command words (Run g q a) (ConvertTable h from to) x y = not_run words g q a convert_table y.settings 99 (λ e. omega (arith, e)) refl y.line x

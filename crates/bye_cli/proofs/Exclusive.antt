@@ -4,12 +4,17 @@ use Rattle.bye_terms.specs.Terms.{Statement}
 use Rattle.bye_table.specs.Mappings.{Pairs}
 use Rattle.bye_table.specs.Tables.{TableValue}
 use Rattle.bye_words.specs.Pairs.{Word}
-use Rattle.bye_cli.specs.Words.{Command, Learn, Convert, ConvertTable, IsCommand, IsSomeCommand}
-use Rattle.bye_cli.specs.Documents.{Files, IsTold, Document, due, Value, Triples, Rows, TooMany, Faulty, Good, HasVerdict, Reaches}
+use Rattle.bye_cli.specs.Words.{Command, Learn, Convert, ConvertTable, Run, IsCommand, IsSomeCommand}
+use Rattle.bye_cli.specs.Documents.{Files, IsTold, Document, due, Value, Triples, Rows, Asks, Good, HasVerdict, Reaches}
 use Rattle.bye_cli.specs.Problem.{IsGiven}
+use Rattle.bye_pattern.specs.Trees.{Select}
+use Rattle.bye_member.specs.Answers.{HasMore}
+use Rattle.bye_cli.specs.Running.{IsRunnable, IsCrowded}
+use Rattle.bye_cli.specs.declared.table_form.WrittenForm.{WrittenForm}
 use Rattle.bye_cli.specs.Causes.{IsFaulty, IsPast, IsMissing, IsWithoutRow, IsAskedCase}
-use Rattle.bye_cli.proofs.Commands.{one_command}
-use Rattle.bye_cli.proofs.Verdicts.{State, Absent, Judged, HasState, one_state}
+use Rattle.bye_words.specs.Forms.{convert as convert_form, convert_table, learn as learn_form}
+use Rattle.bye_cli.proofs.Commands.{not_run, one_command}
+use Rattle.bye_cli.proofs.Verdicts.{State, Absent, Long, Wrong, Says, HasState, one_state}
 
 -- how the reading of documents ends: at one that says no value, or with the values of all
 data Halt : Type 0 where
@@ -19,9 +24,9 @@ data Halt : Type 0 where
 -- no value
 abbrev Holds : State → Type 0
 Holds Absent = Unit {0}
-Holds (Judged (TooMany count)) = Unit {0}
-Holds (Judged (Faulty fault)) = Unit {0}
-Holds (Judged (Good value)) = ⊥
+Holds Long = Unit {0}
+Holds Wrong = Unit {0}
+Holds (Says value) = ⊥
 
 -- a document that is reached has this state, which is no value
 record StopsSo (files : Files) (ds : List Document) (s : State) : Type 0 where
@@ -42,7 +47,7 @@ Halts files ds (Stop s) = StopsSo files ds s
 Halts files ds (End values) = Say files ds values
 
 good_is_no_stop : (files : List ℕ → Option (List ℕ)) (d : Document) (v : Value) (s : State) → HasVerdict (Some files) d (Good v) → HasState (Some files) d s → Holds s → ⊥
-good_is_no_stop files d v s h k holds = subst Holds (sym (one_state files d (Judged (Good v)) s h k)) holds
+good_is_no_stop files d v s h k holds = subst Holds (sym (one_state files d (Says v) s h k)) holds
 
 same_stop : (files : List ℕ → Option (List ℕ)) (ds : List Document) (d e : Document) (s t : State)
     → Reaches (Some files) ds d → HasState (Some files) d s → Holds s → Reaches (Some files) ds e → HasState (Some files) e t → Holds t → s ≡ t
@@ -62,9 +67,9 @@ stop_is_no_end files (x ∷ ds) d s (v ∷ vs) (inr (w, good, a)) h i say = stop
 
 value_in : Value → State → Value
 value_in v Absent = v
-value_in v (Judged (TooMany count)) = v
-value_in v (Judged (Faulty fault)) = v
-value_in v (Judged (Good w)) = w
+value_in v Long = v
+value_in v Wrong = v
+value_in v (Says w) = w
 
 same_values : (files : List ℕ → Option (List ℕ)) (ds : List Document) (vs ws : List Value) → Say (Some files) ds vs → Say (Some files) ds ws → vs ≡ ws
 unfolding value_in
@@ -74,7 +79,7 @@ same_values files [] (v ∷ vs) ws a b = absurd a
 same_values files (d ∷ ds) [] ws a b = absurd a
 same_values files (d ∷ ds) (v ∷ vs) [] a b = absurd b
 same_values files (d ∷ ds) (v ∷ vs) (w ∷ ws) a b =
-    let first : v ≡ w = ap (value_in v) (one_state files d (Judged (Good v)) (Judged (Good w)) a.0 b.0) in
+    let first : v ≡ w = ap (value_in v) (one_state files d (Says v) (Says w) a.0 b.0) in
     let rest = same_values files ds vs ws a.1 b.1 in
     (λ i. first i ∷ rest i)
 
@@ -90,6 +95,7 @@ pub data Ending : Type 0 where
   Past : Ending
   Missing : Ending
   Bare : Ending
+  Crowded : Ending
   Asked : Ending
 
 abbrev pub Ends : Files → List Word → Ending → Type 0
@@ -97,7 +103,13 @@ Ends files words Faults = IsFaulty files words
 Ends files words Past = IsPast files words
 Ends files words Missing = IsMissing files words
 Ends files words Bare = IsWithoutRow files words
+Ends files words Crowded = IsCrowded files words
 Ends files words Asked = IsAskedCase files words
+
+-- too many answers come where all documents say their values, as an answer does
+read_so : Ending → Ending
+read_so Crowded = Asked
+read_so e = e
 
 rows_ending : List Pairs → Ending
 rows_ending [] = Bare
@@ -109,9 +121,9 @@ values_ending vs = Asked
 
 halt_ending : Halt → Ending
 halt_ending (Stop Absent) = Missing
-halt_ending (Stop (Judged (TooMany count))) = Past
-halt_ending (Stop (Judged (Faulty fault))) = Faults
-halt_ending (Stop (Judged (Good value))) = Asked
+halt_ending (Stop Long) = Past
+halt_ending (Stop Wrong) = Faults
+halt_ending (Stop (Says value)) = Asked
 halt_ending (End values) = values_ending values
 
 -- a command of the words, and how the reading of its documents ends
@@ -120,27 +132,38 @@ record Way (files : Files) (words : List Word) (e : Ending) : Type 0 where
   is : IsCommand words command
   halt : Halt
   halts : Halts files (due command) halt
-  same : halt_ending halt ≡ e
+  same : halt_ending halt ≡ read_so e
 
 some_rows : (rows : List Pairs) → 0 < length rows → rows_ending rows ≡ Asked
 unfolding rows_ending
 some_rows [] h = absurd (omega arith)
 some_rows (r ∷ rows) h = refl
 
+run_way : (files : Files) (words : List Word) (graph : List Statement) (query : Select) (form : WrittenForm) → IsRunnable files words graph query form
+    → (e : Ending) → read_so e ≡ Asked → Way files words e
+unfolding halt_ending values_ending
+run_way files words graph query form asked e is = record {
+  command = Run asked.graph_name asked.query_name form;
+  is = asked.run;
+  halt = End (Triples graph ∷ Asks query ∷ []);
+  halts = (asked.graph_held, (asked.query_held, tt));
+  same = sym is;
+}
+
 way_of : (files : Files) (words : List Word) (e : Ending) → Ends files words e → Way files words e
-unfolding halt_ending values_ending rows_ending
+unfolding halt_ending values_ending rows_ending read_so
 way_of files words Faults (role, fault, (command, is, stop)) = record {
   command = command;
   is = is;
-  halt = Stop (Judged (Faulty fault));
-  halts = record { at = stop.document; reached = stop.reached; state = stop.has; holds = tt };
+  halt = Stop Wrong;
+  halts = record { at = stop.document; reached = stop.reached; state = (fault, stop.has); holds = tt };
   same = refl;
 }
 way_of files words Past (role, count, (command, is, stop)) = record {
   command = command;
   is = is;
-  halt = Stop (Judged (TooMany count));
-  halts = record { at = stop.document; reached = stop.reached; state = stop.has; holds = tt };
+  halt = Stop Long;
+  halts = record { at = stop.document; reached = stop.reached; state = (count, stop.has); holds = tt };
   same = refl;
 }
 way_of files words Missing (command, is, (d, reached, lacks)) = record {
@@ -171,25 +194,23 @@ way_of files words Asked (inr (inl (graph, asked))) = record {
   halts = (asked.graph_held, tt);
   same = refl;
 }
-way_of files words Asked (inr (inr (table, to, asked))) = record {
+way_of files words Asked (inr (inr (inl (table, to, asked)))) = record {
   command = ConvertTable asked.table_name asked.from to;
   is = asked.convert;
   halt = End (Rows table ∷ []);
   halts = (asked.table_held, tt);
   same = refl;
 }
+way_of files words Asked (inr (inr (inr (graph, query, form, asked, few)))) = run_way files words graph query form asked Asked refl
+way_of files words Crowded (graph, query, form, asked, more) = run_way files words graph query form asked Crowded refl
 
 pub some_command : (files : Files) (words : List Word) (e : Ending) → Ends files words e → IsSomeCommand words
 some_command files words e h = let way = way_of files words e h in (way.command, way.is)
 
-one_way : (files : List ℕ → Option (List ℕ)) (words : List Word) (a b : Ending) → Way (Some files) words a → Way (Some files) words b → a ≡ b
+one_way : (files : List ℕ → Option (List ℕ)) (words : List Word) (a b : Ending) → Way (Some files) words a → Way (Some files) words b → read_so a ≡ read_so b
 one_way files words a b h k =
     let same = one_command words h.command k.command h.is k.is in
     sym h.same ∙ ap halt_ending (one_halt files (due k.command) h.halt k.halt (subst (λ c. Halts (Some files) (due c) h.halt) same h.halts) k.halts) ∙ k.same
-
-pub one_ending : (files : Files) (words : List Word) (a b : Ending) → IsTold files → Ends files words a → Ends files words b → a ≡ b
-one_ending None words a b told h k = absurd told
-one_ending (Some files) words a b told h k = one_way files words a b (way_of (Some files) words a h) (way_of (Some files) words b k)
 
 -- what is given is one graph and one table
 first_value : List Value → List Statement → List Statement
@@ -210,3 +231,74 @@ same_given (Some files) words graph other wanted table told h k =
     same_values files (due (Learn k.graph_name k.wanted_name k.tables)) (Triples graph ∷ Rows wanted ∷ []) (Triples other ∷ Rows table ∷ [])
     (subst (λ c. Say (Some files) (due c) (Triples graph ∷ Rows wanted ∷ [])) same (h.graph_held, (h.wanted_held, tt))) (k.graph_held, (k.wanted_held, tt)) in
     (ap (λ vs. first_value vs graph) values, ap (λ vs. second_value vs wanted) values)
+
+-- and one query
+second_query : List Value → Select → Select
+second_query (v ∷ Asks query ∷ vs) other = query
+second_query vs other = other
+
+pub same_run : (files : Files) (words : List Word) (graph other : List Statement) (query select : Select) (a b : WrittenForm) → IsTold files
+    → IsRunnable files words graph query a → IsRunnable files words other select b → (graph ≡ other) × (query ≡ select)
+unfolding first_value second_query
+same_run None words graph other query select a b told h k = absurd told
+same_run (Some files) words graph other query select a b told h k =
+    let same = one_command words (Run h.graph_name h.query_name a) (Run k.graph_name k.query_name b) h.run k.run in
+    let values =
+    same_values files (due (Run k.graph_name k.query_name b)) (Triples graph ∷ Asks query ∷ []) (Triples other ∷ Asks select ∷ [])
+    (subst (λ c. Say (Some files) (due c) (Triples graph ∷ Asks query ∷ [])) same (h.graph_held, (h.query_held, tt))) (k.graph_held, (k.query_held, tt)) in
+    (ap (λ vs. first_value vs graph) values, ap (λ vs. second_query vs query) values)
+
+-- no question that is answered has too many answers
+crowded_asked : (files : Files) (words : List Word) → IsTold files → IsCrowded files words → IsAskedCase files words → ⊥
+crowded_asked files words told (g, q, f, asked, more) (inl (graph, wanted, learn)) =
+    not_run words asked.graph_name asked.query_name f learn_form learn.given.learn.settings 108 (λ e. omega (arith, e)) refl learn.given.learn.line asked.run
+crowded_asked files words told (g, q, f, asked, more) (inr (inl (graph, convert))) =
+    not_run words asked.graph_name asked.query_name f convert_form convert.convert.settings 99 (λ e. omega (arith, e)) refl convert.convert.line asked.run
+crowded_asked files words told (g, q, f, asked, more) (inr (inr (inl (table, to, convert)))) =
+    not_run words asked.graph_name asked.query_name f convert_table convert.convert.settings 99 (λ e. omega (arith, e)) refl convert.convert.line asked.run
+crowded_asked files words told (g, q, f, asked, more) (inr (inr (inr (graph, query, form, run, few)))) =
+    let same = same_run files words g graph q query f form told asked run in
+    few (subst (λ q. HasMore graph q) same.1 (subst (λ g. HasMore g q) same.0 more))
+
+alone : (files : Files) (words : List Word) (a b : Ending) → IsTold files → Ends files words a → Ends files words b → read_so a ≡ read_so b → a ≡ b
+unfolding read_so
+alone files words Crowded Crowded told h k e = refl
+alone files words Crowded Asked told h k e = absurd (crowded_asked files words told h k)
+alone files words Asked Crowded told h k e = absurd (crowded_asked files words told k h)
+alone files words Crowded Faults told h k e = cc
+alone files words Crowded Past told h k e = cc
+alone files words Crowded Missing told h k e = cc
+alone files words Crowded Bare told h k e = cc
+alone files words Faults Crowded told h k e = cc
+alone files words Past Crowded told h k e = cc
+alone files words Missing Crowded told h k e = cc
+alone files words Bare Crowded told h k e = cc
+alone files words Faults Faults told h k e = refl
+alone files words Faults Past told h k e = cc
+alone files words Faults Missing told h k e = cc
+alone files words Faults Bare told h k e = cc
+alone files words Faults Asked told h k e = cc
+alone files words Past Faults told h k e = cc
+alone files words Past Past told h k e = refl
+alone files words Past Missing told h k e = cc
+alone files words Past Bare told h k e = cc
+alone files words Past Asked told h k e = cc
+alone files words Missing Faults told h k e = cc
+alone files words Missing Past told h k e = cc
+alone files words Missing Missing told h k e = refl
+alone files words Missing Bare told h k e = cc
+alone files words Missing Asked told h k e = cc
+alone files words Bare Faults told h k e = cc
+alone files words Bare Past told h k e = cc
+alone files words Bare Missing told h k e = cc
+alone files words Bare Bare told h k e = refl
+alone files words Bare Asked told h k e = cc
+alone files words Asked Faults told h k e = cc
+alone files words Asked Past told h k e = cc
+alone files words Asked Missing told h k e = cc
+alone files words Asked Bare told h k e = cc
+alone files words Asked Asked told h k e = refl
+
+pub one_ending : (files : Files) (words : List Word) (a b : Ending) → IsTold files → Ends files words a → Ends files words b → a ≡ b
+one_ending None words a b told h k = absurd told
+one_ending (Some files) words a b told h k = alone (Some files) words a b told h k (one_way files words a b (way_of (Some files) words a h) (way_of (Some files) words b k))

@@ -7,3 +7,6 @@ pub mod Settings
 pub mod Settled
 pub mod Unread
 pub mod Verdicts
+pub mod Members
+pub mod Features
+pub mod Ran

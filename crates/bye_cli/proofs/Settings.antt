@@ -1,9 +1,11 @@
 -- The forms of tables that the settings of a command name.
-use Rattle.std.proofs.Common.{◌≡◌, refl, ℕ, List, get_or, codes, ⊎_elim, sym, ◌∙◌, ap, subst, arith}
+use Rattle.std.proofs.Common.{◌≡◌, refl, ℕ, List, [], ◌∷◌, get_or, codes, inl, inr, ◌⊎◌, ⊎_elim, sym, ◌∙◌, ap, subst, arith}
 use Rattle.bye_terms.specs.Members.{In}
 use Rattle.bye_terms.proofs.Members.{all_in}
 use Rattle.bye_words.specs.Pairs.{Word, Setting}
-use Rattle.bye_words.specs.Forms.{AreOf, Form, IsKnown, IsLine, IsReading, convert, convert_table, forms, learn, read_forms, written_forms}
+use Rattle.bye_words.specs.Kinds.{IsOfKind}
+use Rattle.bye_words.specs.Forms.{AreOf, Form, IsKnown, IsLine, IsOneOf, IsReading, Name, convert, convert_table, forms, learn, names_in, read_forms, run, written_forms}
+use Rattle.bye_words.specs.declared.form_name.FormName.{FormName}
 use Rattle.bye_words.specs.declared.form_name.FormName.TheVariants as names
 
 -- two names that differ at a place
@@ -38,21 +40,41 @@ to_kind settings word are h =
     (λ k. absurd k)
     (all_in (IsKnown convert_table) settings (codes "--to", word) are.known h)
 
+-- that of `--as`
+pub as_kind : (settings : List Setting) (word : Word) → AreOf run settings → In settings (codes "--as", word) → In written_forms word
+as_kind settings word are h =
+    ⊎_elim
+    (λ k. ⊎_elim (λ g. apart (codes "--graph") (codes "--as") 2 103 97 refl refl (λ e. omega (arith, e)) g.0)
+    (λ k. ⊎_elim (λ g. apart (codes "--query") (codes "--as") 2 113 97 refl refl (λ e. omega (arith, e)) g.0) (λ k. absurd k) k) k)
+    (λ k. ⊎_elim (λ g. g.1) (λ k. absurd k) k)
+    (all_in (IsKnown run) settings (codes "--as", word) are.known h)
+
+-- the form of a name
+abbrev form_of : FormName → Form
+form_of names.Learn = learn
+form_of names.Convert = convert
+form_of names.ConvertTable = convert_table
+form_of names.Run = run
+
+listed : (f : Form) → In forms f → form_of f.name ≡ f
+listed f (inl e) = ap (λ (f : Form). form_of f.name) (sym e) ∙ e
+listed f (inr (inl e)) = ap (λ (f : Form). form_of f.name) (sym e) ∙ e
+listed f (inr (inr (inl e))) = ap (λ (f : Form). form_of f.name) (sym e) ∙ e
+listed f (inr (inr (inr (inl e)))) = ap (λ (f : Form). form_of f.name) (sym e) ∙ e
+listed f (inr (inr (inr (inr none)))) = absurd none
+
 -- the form of a reading, by its name
+form_line : (words : List Word) (name : FormName) (settings : List Setting) → IsReading forms words name settings → IsLine words (form_of name) settings
+form_line words name settings h = subst (λ (f : Form). IsLine words f settings) (sym (listed h.form h.listed) ∙ ap form_of h.named) h.line
+
 pub learn_line : (words : List Word) (settings : List Setting) → IsReading forms words names.Learn settings → IsLine words learn settings
-learn_line words settings h =
-    ⊎_elim (λ e. subst (λ (f : Form). IsLine words f settings) (sym e) h.line)
-    (λ k. ⊎_elim (λ e. let n = ap (λ (f : Form). f.name) e ∙ h.named in cc) (λ k. ⊎_elim (λ e. let n = ap (λ (f : Form). f.name) e ∙ h.named in cc) (λ k. absurd k) k) k)
-    h.listed
+learn_line words settings h = form_line words names.Learn settings h
 
 pub convert_line : (words : List Word) (settings : List Setting) → IsReading forms words names.Convert settings → IsLine words convert settings
-convert_line words settings h =
-    ⊎_elim (λ e. let n = ap (λ (f : Form). f.name) e ∙ h.named in cc)
-    (λ k. ⊎_elim (λ e. subst (λ (f : Form). IsLine words f settings) (sym e) h.line) (λ k. ⊎_elim (λ e. let n = ap (λ (f : Form). f.name) e ∙ h.named in cc) (λ k. absurd k) k) k)
-    h.listed
+convert_line words settings h = form_line words names.Convert settings h
 
 pub convert_table_line : (words : List Word) (settings : List Setting) → IsReading forms words names.ConvertTable settings → IsLine words convert_table settings
-convert_table_line words settings h =
-    ⊎_elim (λ e. let n = ap (λ (f : Form). f.name) e ∙ h.named in cc)
-    (λ k. ⊎_elim (λ e. let n = ap (λ (f : Form). f.name) e ∙ h.named in cc) (λ k. ⊎_elim (λ e. subst (λ (f : Form). IsLine words f settings) (sym e) h.line) (λ k. absurd k) k) k)
-    h.listed
+convert_table_line words settings h = form_line words names.ConvertTable settings h
+
+pub run_line : (words : List Word) (settings : List Setting) → IsReading forms words names.Run settings → IsLine words run settings
+run_line words settings h = form_line words names.Run settings h

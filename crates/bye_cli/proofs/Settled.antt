@@ -4,10 +4,14 @@ use Rattle.bye_io.specs.Counts.{Rose}
 use Rattle.bye_terms.specs.Terms.{Statement}
 use Rattle.bye_table.specs.Tables.{TableValue}
 use Rattle.bye_words.specs.Pairs.{Word}
-use Rattle.bye_cli.specs.Words.{IsLearn, IsNoCommand, IsSomeCommand, IsSomeConvert}
+use Rattle.bye_words.specs.Forms.{convert, convert_table, learn}
+use Rattle.bye_cli.specs.Words.{IsLearn, IsNoCommand, IsRun, IsSomeCommand, IsSomeConvert, IsSomeRun}
 use Rattle.bye_cli.specs.Documents.{Files, IsTold}
 use Rattle.bye_cli.specs.Problem.{IsAsked, IsQueryText, IsRefusalLine, IsDoneOutput, IsRefusedOutput, IsOutput}
 use Rattle.bye_cli.specs.Converting.{IsConverted, IsTableConverted, IsConversion}
+use Rattle.bye_cli.specs.Running.{IsCrowded, IsRan, IsRunning}
+use Rattle.bye_cli.specs.declared.table_form.TableForm.{TableForm}
+use Rattle.bye_cli.specs.declared.table_form.WrittenForm.{WrittenForm}
 use Rattle.bye_cli.specs.Headline.{NoneFits, Headline}
 use Rattle.bye_cli.specs.Causes.{IsCause, IsReason, IsFailure, IsFaulty, IsPast, IsUnreadable, IsMissing, IsWithoutRow, IsQuiet, IsAskedCase}
 use Rattle.bye_words.specs.Lines.{err_line}
@@ -20,8 +24,8 @@ use Rattle.bye_words.specs.declared.refusal.Refusal.{Refusal}
 use Rattle.bye_words.specs.declared.refusal.Refusal.TheVariants as refusals
 use Rattle.bye_words.specs.declared.status.Status.{Status}
 use Rattle.bye_words.specs.declared.status.Status.TheVariants as statuses
-use Rattle.bye_cli.proofs.Commands.{not_both, not_table}
-use Rattle.bye_cli.proofs.Exclusive.{Ending, Faults, Past, Missing, Bare, Asked, Ends, one_ending, some_command, same_given}
+use Rattle.bye_cli.proofs.Commands.{not_both, not_run, not_table}
+use Rattle.bye_cli.proofs.Exclusive.{Ending, Faults, Past, Missing, Bare, Crowded, Asked, Ends, one_ending, some_command, same_given}
 
 -- what a run tells of how it ends
 pub record Run (files : Files) (words : List Word) (before now out_before out_now : ℕ) (sent sent_now : Option (List ℕ)) (outcome : Outcome) : Type 0 where
@@ -32,7 +36,10 @@ pub record Run (files : Files) (words : List Word) (before now out_before out_no
   pub failed : IsFailure files words before now outcome
 
 done_asked : (files : Files) (words : List Word) (bytes : List ℕ) → IsDoneOutput files words bytes → Ends files words Asked
-done_asked files words bytes h = ⊎_elim (λ k. inl (k.1.graph, k.1.wanted, k.1.asked)) (λ k. inr (⊎_elim (λ k. inl (k.graph, k.asked)) (λ k. inr (k.table, k.to, k.asked)) k)) h
+done_asked files words bytes (inl k) = inl (k.1.graph, k.1.wanted, k.1.asked)
+done_asked files words bytes (inr (inl k)) = inr (inl (k.graph, k.asked))
+done_asked files words bytes (inr (inr (inl k))) = inr (inr (inl (k.table, k.to, k.asked)))
+done_asked files words bytes (inr (inr (inr k))) = inr (inr (inr (k.graph, k.query, k.form, k.asked, k.answers.few)))
 
 refused_asked : (files : Files) (words : List Word) (bytes : List ℕ) → IsRefusedOutput files words bytes → Ends files words Asked
 refused_asked files words bytes h = inl (h.1.graph, h.1.wanted, h.1.asked)
@@ -46,6 +53,7 @@ Matches Faults status = status ≡ statuses.Document
 Matches Past status = status ≡ statuses.Limit
 Matches Missing status = status ≡ statuses.ReadFault
 Matches Bare status = status ≡ statuses.Example
+Matches Crowded status = status ≡ statuses.Limit
 Matches Asked status = (status ≡ statuses.Done) ⊎ ((status ≡ statuses.Refused) ⊎ (status ≡ statuses.WriteFault))
 
 -- why a command fails, but that its output could not be written
@@ -77,7 +85,7 @@ shown files words before now ob on s t (Err (refusals.ReadFault role)) run =
 shown files words before now ob on s t (Err refusals.WriteFault) run = let w = run.write_fault refl in Way Asked (output_asked files words w.0 w.1) (inr (inr refl))
 shown files words before now ob on s t (Err refusals.Memory) run = NoMemory refl (cause_of files words before now refusals.Memory run.failed (λ e. cc))
 shown files words before now ob on s t (Err (refusals.Example example)) run = Way Bare (cause_of files words before now (refusals.Example example) run.failed (λ e. cc)).1 refl
-shown files words before now ob on s t (Err refusals.Answers) run = absurd (cause_of files words before now refusals.Answers run.failed (λ e. cc))
+shown files words before now ob on s t (Err refusals.Answers) run = Way Crowded (cause_of files words before now refusals.Answers run.failed (λ e. cc)) refl
 shown files words before now ob on s t (Err refusals.LinkFault) run = absurd (cause_of files words before now refusals.LinkFault run.failed (λ e. cc))
 shown files words before now ob on s t (Err (refusals.Remote remote)) run = absurd (cause_of files words before now (refusals.Remote remote) run.failed (λ e. cc))
 
@@ -107,6 +115,7 @@ words_none files words before now status (Way Faults h m) e = let c = sym m ∙ 
 words_none files words before now status (Way Past h m) e = let c = sym m ∙ e in cc
 words_none files words before now status (Way Missing h m) e = let c = sym m ∙ e in cc
 words_none files words before now status (Way Bare h m) e = let c = sym m ∙ e in cc
+words_none files words before now status (Way Crowded h m) e = let c = sym m ∙ e in cc
 words_none files words before now status (Way Asked h (inl m)) e = let c = sym m ∙ e in cc
 words_none files words before now status (Way Asked h (inr (inl m))) e = let c = sym m ∙ e in cc
 words_none files words before now status (Way Asked h (inr (inr m))) e = let c = sym m ∙ e in cc
@@ -186,14 +195,14 @@ is_document files words before now (Err refusals.LinkFault) h e = cc
 is_document files words before now (Err (refusals.Example example)) h e = cc
 is_document files words before now (Err (refusals.Remote remote)) h e = cc
 
--- a document that passes a limit
-pub is_limit : (files : Files) (words : List Word) (before now : ℕ) (outcome : Outcome) → IsFailure files words before now outcome → outcome_status outcome ≡ statuses.Limit → IsPast files words
+-- a document that passes a limit, or answers that do
+pub is_limit : (files : Files) (words : List Word) (before now : ℕ) (outcome : Outcome) → IsFailure files words before now outcome → outcome_status outcome ≡ statuses.Limit → IsPast files words ⊎ IsCrowded files words
 is_limit files words before now (Ok endings.Done) h e = cc
 is_limit files words before now (Ok endings.Refused) h e = cc
 is_limit files words before now (Err refusals.Words) h e = cc
 is_limit files words before now (Err (refusals.Document role fault)) h e = cc
-is_limit files words before now (Err (refusals.Limit role count)) h e = (role, count, cause_of files words before now (refusals.Limit role count) h (λ e. cc))
-is_limit files words before now (Err refusals.Answers) h e = absurd (cause_of files words before now refusals.Answers h (λ e. cc))
+is_limit files words before now (Err (refusals.Limit role count)) h e = inl (role, count, cause_of files words before now (refusals.Limit role count) h (λ e. cc))
+is_limit files words before now (Err refusals.Answers) h e = inr (cause_of files words before now refusals.Answers h (λ e. cc))
 is_limit files words before now (Err (refusals.ReadFault role)) h e = cc
 is_limit files words before now (Err refusals.WriteFault) h e = cc
 is_limit files words before now (Err refusals.Memory) h e = cc
@@ -206,9 +215,18 @@ no_learn : (files : Files) (words : List Word) (graph wanted : Word) (tables : _
 no_learn files words graph wanted tables (inl h) learn = not_both words graph wanted h.0 tables learn h.1
 no_learn files words graph wanted tables (inr h) learn = not_table words graph wanted h.0 tables h.1 h.2 learn h.3
 
+learn_or_run : {X : Type 0} (words : List Word) (g w h q : Word) (tables : TableForm) (form : WrittenForm) → IsLearn words g w tables → IsRun words h q form → X
+learn_or_run words g w h q tables form a b = not_run words h q form learn a.settings 108 (λ e. omega (arith, e)) refl a.line b
+
+no_convert : (words : List Word) (g q : Word) (form : WrittenForm) → IsSomeConvert words → IsRun words g q form → ⊥
+no_convert words g q form (inl h) run = not_run words g q form convert h.1.settings 99 (λ e. omega (arith, e)) refl h.1.line run
+no_convert words g q form (inr h) run = not_run words g q form convert_table h.3.settings 99 (λ e. omega (arith, e)) refl h.3.line run
+
 converted_of : (files : Files) (words : List Word) (bytes : List ℕ) → IsSomeConvert words → IsDoneOutput files words bytes → IsConverted files words bytes ⊎ IsTableConverted files words bytes
-converted_of files words bytes convert h =
-    ⊎_elim (λ k. absurd (no_learn files words k.1.asked.given.graph_name k.1.asked.given.wanted_name k.1.asked.given.tables convert k.1.asked.given.learn)) (λ k. k) h
+converted_of files words bytes convert (inl k) = absurd (no_learn files words k.1.asked.given.graph_name k.1.asked.given.wanted_name k.1.asked.given.tables convert k.1.asked.given.learn)
+converted_of files words bytes convert (inr (inl k)) = inl k
+converted_of files words bytes convert (inr (inr (inl k))) = inr k
+converted_of files words bytes convert (inr (inr (inr k))) = absurd (no_convert words k.asked.graph_name k.asked.query_name k.form convert k.asked.run)
 
 pub conversion : (files : Files) (words : List Word) (before now out_before out_now : ℕ) (sent sent_now : Option (List ℕ)) (outcome : Outcome)
     → Run files words before now out_before out_now sent sent_now outcome → (status : Status) → status ≡ outcome_status outcome → IsSomeConvert words → IsConversion files words sent sent_now status
@@ -218,6 +236,23 @@ conversion files words before now ob on s t outcome run status is convert = reco
       no_learn files words w.1.1.asked.given.graph_name w.1.1.asked.given.wanted_name w.1.1.asked.given.tables convert w.1.1.asked.given.learn;
   example = λ e. let h = is_example files words before now outcome run.failed (sym is ∙ e) in
       no_learn files words h.2.graph_name h.2.wanted_name h.2.tables convert h.2.learn;
+}
+
+-- what `run` writes
+ran_of : (files : Files) (words : List Word) (bytes : List ℕ) (graph query : Word) (form : WrittenForm) → IsRun words graph query form → IsDoneOutput files words bytes → IsRan files words bytes
+ran_of files words bytes graph query form run (inl k) = learn_or_run words k.1.asked.given.graph_name k.1.asked.given.wanted_name graph query k.1.asked.given.tables form k.1.asked.given.learn run
+ran_of files words bytes graph query form run (inr (inl k)) = absurd (no_convert words graph query form (inl (k.asked.graph_name, k.asked.convert)) run)
+ran_of files words bytes graph query form run (inr (inr (inl k))) = absurd (no_convert words graph query form (inr (k.asked.table_name, k.asked.from, k.to, k.asked.convert)) run)
+ran_of files words bytes graph query form run (inr (inr (inr k))) = k
+
+pub running : (files : Files) (words : List Word) (before now out_before out_now : ℕ) (sent sent_now : Option (List ℕ)) (outcome : Outcome)
+    → Run files words before now out_before out_now sent sent_now outcome → (status : Status) → status ≡ outcome_status outcome → IsSomeRun words → IsRunning files words sent sent_now status
+running files words before now ob on s t outcome run status is (graph, query, form, asked) = record {
+  done = λ e. let w = run.done (is_done outcome (sym is ∙ e)) in (w.0, ran_of files words w.0 graph query form asked w.1, w.2);
+  refused = λ e. let w = run.refused (is_refused outcome (sym is ∙ e)) in
+      learn_or_run words w.1.1.asked.given.graph_name w.1.1.asked.given.wanted_name graph query w.1.1.asked.given.tables form w.1.1.asked.given.learn asked;
+  example = λ e. let h = is_example files words before now outcome run.failed (sym is ∙ e) in
+      learn_or_run words h.2.graph_name h.2.wanted_name graph query h.2.tables form h.2.learn asked;
 }
 
 -- what goes to `err`
@@ -250,7 +285,10 @@ query_of files words graph wanted bytes told asked h =
     (k.0, subst (λ (t : TableValue). IsQueryText graph t k.0) same.1 (subst (λ (g : List Statement). IsQueryText g k.1.wanted k.0) same.0 k.1.query), k.2))
     (λ k. ⊎_elim
     (λ k. absurd (not_both words asked.given.graph_name asked.given.wanted_name k.asked.graph_name asked.given.tables asked.given.learn k.asked.convert))
+    (λ k. ⊎_elim
     (λ k. absurd (not_table words asked.given.graph_name asked.given.wanted_name k.asked.table_name asked.given.tables k.asked.from k.to asked.given.learn k.asked.convert))
+    (λ k. learn_or_run words asked.given.graph_name asked.given.wanted_name k.asked.graph_name k.asked.query_name asked.given.tables k.form asked.given.learn k.asked.run)
+    k)
     k)
     h
 

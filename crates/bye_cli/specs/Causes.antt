@@ -9,6 +9,7 @@ use Rattle.bye_cli.specs.Words.{Command, IsCommand, IsNoCommand, IsSomeCommand}
 use Rattle.bye_cli.specs.Documents.{Files, IsTold, Kind, Document, role_of, due, Verdict, TooMany, Faulty, IsVerdict, HasVerdict, Reaches, Stops}
 use Rattle.bye_cli.specs.Problem.{IsGiven, IsAsked}
 use Rattle.bye_cli.specs.Converting.{IsConvertible, IsTableConvertible}
+use Rattle.bye_cli.specs.Running.{IsAnswerable, IsCrowded}
 use Rattle.bye_cli.specs.declared.table_form.WrittenForm.{WrittenForm}
 use Rattle.bye_cli.specs.Statuses.{Outcome}
 use Rattle.bye_words.specs.declared.example.Example.TheVariants as examples
@@ -70,6 +71,7 @@ IsCause files words before now (refusals.Document role fault) = IsStopped files 
 IsCause files words before now (refusals.Limit role count) = IsStopped files words role (TooMany count)
 IsCause files words before now (refusals.ReadFault role) = IsUnreadable files words before now role
 IsCause files words before now (refusals.Example example) = (example ≡ examples.NoWanted) × IsWithoutRow files words
+IsCause files words before now refusals.Answers = IsCrowded files words
 IsCause files words before now refusals.Memory = IsSomeCommand words
 IsCause files words before now _ = ⊥
 
@@ -87,7 +89,9 @@ pub record IsQuiet (files : Files) (before now : ℕ) : Type 0 where
   pub told : IsTold files
   pub rose : Rose before now → ⊥
 
--- the documents are given, and to `learn` a wanted row
+-- the documents are given, and to `learn` a wanted row, and to `run` a query that has no more answers than may be
 abbrev pub IsAskedCase : Files → List Word → Type 0
 IsAskedCase files words =
-    ((graph : List Statement) × (wanted : TableValue) × IsAsked files words graph wanted) ⊎ (((graph : List Statement) × IsConvertible files words graph) ⊎ ((table : TableValue) × (to : WrittenForm) × IsTableConvertible files words table to))
+    ((graph : List Statement) × (wanted : TableValue) × IsAsked files words graph wanted)
+    ⊎ (((graph : List Statement) × IsConvertible files words graph)
+    ⊎ (((table : TableValue) × (to : WrittenForm) × IsTableConvertible files words table to) ⊎ IsAnswerable files words))

@@ -12,12 +12,21 @@ use Rattle.bye_tsv.specs.declared.fault.TsvErr.TheVariants as tsv_errors
 use Rattle.bye_json.specs.Answers.{JsonAnswer}
 use Rattle.bye_json.specs.declared.json_err.JsonErr.{JsonErr}
 use Rattle.bye_json.specs.declared.json_err.JsonErr.TheVariants as json_errors
+use Rattle.bye_pattern.specs.Trees.{Select}
+use Rattle.bye_pattern.specs.declared.rule.Rule.{Rule as PatternRule}
+use Rattle.bye_pattern.specs.declared.rule.Rule.TheVariants as pattern_rules
+use Rattle.bye_descent.specs.Features.{feature_text}
+use Rattle.bye_query.specs.Answers.{QueryAnswer}
+use Rattle.bye_query.specs.declared.query_err.QueryErr.{QueryErr}
+use Rattle.bye_query.specs.declared.query_err.QueryErr.TheVariants as query_errors
 use Rattle.bye_words.specs.Pairs.{Word}
-use Rattle.bye_cli.specs.Words.{Command, Learn, Convert, ConvertTable}
+use Rattle.bye_cli.specs.Words.{Command, Learn, Convert, ConvertTable, Run}
 use Rattle.bye_cli.specs.declared.table_form.TableForm.{TableForm}
 use Rattle.bye_cli.specs.declared.table_form.TableForm.TheVariants.{Tsv, Json}
 use Rattle.bye_words.specs.declared.role.Role.{Role}
 use Rattle.bye_words.specs.declared.role.Role.TheVariants as roles
+use Rattle.bye_words.specs.declared.rule.Rule.{Rule}
+use Rattle.bye_words.specs.declared.rule.Rule.TheVariants as rules
 use Rattle.bye_words.specs.declared.fault.Fault.{Fault}
 use Rattle.bye_words.specs.declared.fault.Fault.TheVariants as faults
 use Rattle.bye_words.specs.declared.count.Count.{Count}
@@ -42,14 +51,16 @@ abbrev pub IsTold : Files → Type 0
 IsTold None = ⊥
 IsTold (Some files) = ⊤
 
--- what a document is read as: a graph, or a table in a role and a form
+-- what a document is read as: a graph, a query, or a table in a role and a form
 pub data Kind : Type 0 where
   OfGraph : Kind
+  OfQuery : Kind
   OfTable : Role → TableForm → Kind
 
 -- its role
 abbrev pub role_of : Kind → Role
 role_of OfGraph = roles.Graph
+role_of OfQuery = roles.Query
 role_of (OfTable role form) = role
 
 -- a document: what it is read as, and its name
@@ -61,10 +72,12 @@ abbrev pub due : Command → List Document
 due (Learn graph wanted tables) = (OfGraph, graph) ∷ (OfTable roles.Wanted tables, wanted) ∷ []
 due (Convert graph) = (OfGraph, graph) ∷ []
 due (ConvertTable table from to) = (OfTable roles.Table from, table) ∷ []
+due (Run graph query form) = (OfGraph, graph) ∷ (OfQuery, query) ∷ []
 
 -- the greatest number of bytes of a document
 abbrev pub limit_of : Kind → ℕ
 limit_of OfGraph = 268435456
+limit_of OfQuery = 16777216
 limit_of (OfTable role form) = 67108864
 
 -- the greatest number of variables of a table: of one that is converted, and of examples
@@ -85,6 +98,7 @@ bounds_of role = record { vars = most_vars role; rows = most_rows role }
 pub data Value : Type 0 where
   Triples : List Statement → Value
   Rows : TableValue → Value
+  Asks : Select → Value
 
 -- the verdict on a document's bytes: they have too many of something, they are not of the form, or they say a value
 pub data Verdict : Type 0 where
@@ -123,6 +137,26 @@ json_verdict (Err json_errors.TooManyVars) = Some (TooMany counts.Variables)
 json_verdict (Err json_errors.TooManyRows) = Some (TooMany counts.Rows)
 json_verdict (Err json_errors.Memory) = None
 
+-- a rule that a query breaks, as a line tells it
+abbrev pub rule_of : PatternRule → Rule
+rule_of pattern_rules.NoTriples = rules.NoTriples
+rule_of pattern_rules.NoNewVariable = rules.NoNewVariable
+rule_of pattern_rules.NotWellDesigned = rules.NotWellDesigned
+rule_of pattern_rules.UnsafeCondition = rules.UnsafeCondition
+
+-- the verdict on what is read as a query
+abbrev pub query_verdict : Result Select QueryErr → Option Verdict
+query_verdict (Ok query) = Some (Good (Asks query))
+query_verdict (Err query_errors.TooLong) = Some (TooMany counts.Bytes)
+query_verdict (Err (query_errors.NotUtf8 place)) = Some (Faulty (faults.NotUtf8 place))
+query_verdict (Err (query_errors.Syntax place)) = Some (Faulty (faults.Syntax place))
+query_verdict (Err (query_errors.LeftOut place feature)) = Some (Faulty (faults.LeftOut place (feature_text feature)))
+query_verdict (Err (query_errors.UnknownPrefix place)) = Some (Faulty (faults.UnknownPrefix place))
+query_verdict (Err (query_errors.TooDeep place)) = Some (TooMany counts.Brackets)
+query_verdict (Err (query_errors.Broken shape)) = Some (Faulty (faults.Broken (rule_of shape.rule) shape.path))
+query_verdict (Err query_errors.Projected) = Some (Faulty faults.Projected)
+query_verdict (Err query_errors.Memory) = None
+
 -- some answer of a reader has this verdict
 abbrev pub Reads : {A : Type 0} → (A → Type 0) → (A → Option Verdict) → Verdict → Type 0
 Reads {A} IsAnswer verdict_of verdict = (answer : A) × IsAnswer answer × (verdict_of answer ≡ Some verdict)
@@ -130,6 +164,7 @@ Reads {A} IsAnswer verdict_of verdict = (answer : A) × IsAnswer answer × (verd
 -- the bytes are read so in the form of the document
 abbrev pub IsRead : Kind → List ℕ → Verdict → Type 0
 IsRead OfGraph bytes verdict = Reads (NtAnswer bytes) graph_verdict verdict
+IsRead OfQuery bytes verdict = Reads (QueryAnswer bytes) query_verdict verdict
 IsRead (OfTable role Tsv) bytes verdict = Reads (TsvAnswer (bounds_of role) bytes) tsv_verdict verdict
 IsRead (OfTable role Json) bytes verdict = Reads (JsonAnswer bytes (most_vars role) (most_rows role)) json_verdict verdict
 

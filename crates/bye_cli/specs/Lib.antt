@@ -8,3 +8,5 @@ pub mod Refusals
 pub mod Headline
 pub mod Messages
 pub mod Converting
+pub mod Running
+pub mod Answering

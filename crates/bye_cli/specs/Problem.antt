@@ -13,6 +13,7 @@ use Rattle.bye_words.specs.Pairs.{Word}
 use Rattle.bye_cli.specs.Words.{IsLearn}
 use Rattle.bye_cli.specs.Documents.{Files, OfGraph, OfTable, Triples, Rows, Good, HasVerdict}
 use Rattle.bye_cli.specs.Converting.{IsConverted, IsTableConverted}
+use Rattle.bye_cli.specs.Running.{IsRan}
 use Rattle.bye_cli.specs.Statuses.{InUtf8}
 use Rattle.bye_words.specs.declared.role.Role.TheVariants.{Wanted}
 use Rattle.bye_cli.specs.declared.table_form.TableForm.{TableForm}
@@ -68,9 +69,9 @@ pub record IsRefusalText (files : Files) (words : List Word) (text : List ℕ) :
   pub asked : IsAsked files words graph wanted
   pub refusal : IsRefusalLine graph wanted text
 
--- what is written on Done: the text of the learned query, or the converted document
+-- what is written on Done: the text of the learned query, the converted document, or the answers of the query
 abbrev pub IsDoneOutput : Files → List Word → List ℕ → Type 0
-IsDoneOutput files words bytes = InUtf8 (IsLearnedText files words) bytes ⊎ (IsConverted files words bytes ⊎ IsTableConverted files words bytes)
+IsDoneOutput files words bytes = InUtf8 (IsLearnedText files words) bytes ⊎ (IsConverted files words bytes ⊎ (IsTableConverted files words bytes ⊎ IsRan files words bytes))
 
 -- what is written on Refused
 abbrev pub IsRefusedOutput : Files → List Word → List ℕ → Type 0

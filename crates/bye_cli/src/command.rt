@@ -3,7 +3,7 @@
 ghost use Rattle.std.specs.Prelude.{List, IfSome, IfNone};
 ghost use Rattle.bye_words.specs.Pairs.{Word};
 ghost use Rattle.bye_words.specs.Forms as forms;
-ghost use Rattle.bye_cli.specs.Words.{HasTables, IsCommand, IsNoCommand};
+ghost use Rattle.bye_cli.specs.Words.{HasForm, HasTables, IsCommand, IsNoCommand};
 ghost use Rattle.bye_cli.specs.Commands.{command_of};
 
 use crate::table_form::{TableForm, WrittenForm, read_form, written_form};
@@ -24,6 +24,11 @@ pub enum Command<'a> {
         table: &'a Text,
         from: TableForm,
         to: WrittenForm,
+    },
+    Run {
+        graph: &'a Text,
+        query: &'a Text,
+        form: WrittenForm,
     },
 }
 
@@ -69,6 +74,28 @@ fn convert_table_command<'a>(settings: &Settings<'a>) -> Command<'a>
     }
 }
 
+/// The form of the answers.
+fn answers_form(settings: &Settings<'_>) -> WrittenForm
+    requires { forms.AreOf forms.run settings.now }
+    ensures { HasForm settings.now result }
+{
+    match settings.value("--as") {
+        Some(word) => written_form(word),
+        None => WrittenForm::Tsv,
+    }
+}
+
+fn run_command<'a>(settings: &Settings<'a>) -> Command<'a>
+    requires { forms.AreOf forms.run settings.now }
+    ensures { (words : List Word) → forms.IsLine words forms.run settings.now → IsCommand words (command_of result) }
+{
+    Command::Run {
+        graph: settings.must("--graph"),
+        query: settings.must("--query"),
+        form: answers_form(settings),
+    }
+}
+
 /// The command that the words give.
 pub fn read_command(words: &[Text]) -> Option<Command<'_>>
     ensures command { IfSome result (λ command. IsCommand words.now (command_of command)) }
@@ -79,5 +106,6 @@ pub fn read_command(words: &[Text]) -> Option<Command<'_>>
         FormName::Learn => learn_command(&reading.settings),
         FormName::Convert => convert_command(&reading.settings),
         FormName::ConvertTable => convert_table_command(&reading.settings),
+        FormName::Run => run_command(&reading.settings),
     })
 }

@@ -39,7 +39,7 @@ pub fn converted<F: Folder>(alloc: Global, folder: &mut F, name: &Text) -> Resul
 }
 
 /// The document of the table in the form.
-fn write_table(alloc: Global, table: &Table, to: WrittenForm) -> Result<Vec<u8>, Memory>
+pub fn write_table(alloc: Global, table: &Table, to: WrittenForm) -> Result<Vec<u8>, Memory>
     ensures { IfOk result (λ bytes. bytes.items ≡ table_bytes to table.now) }
 {
     match to {

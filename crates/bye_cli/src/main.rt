@@ -9,8 +9,10 @@ mod graph_reader;
 mod learning;
 mod opening;
 mod program;
+mod query_reader;
 mod reader;
 mod report;
+mod running;
 mod table_form;
 mod table_reader;
 #[cfg(test)]

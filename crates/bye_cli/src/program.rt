@@ -2,9 +2,10 @@
 
 ghost use Rattle.std.specs.Prelude.{◌≡◌, ◌≤◌, ◌⊎◌, ◌↔◌, IfOk, IfErr};
 ghost use Rattle.bye_io.specs.Counts.{Rose};
-ghost use Rattle.bye_cli.specs.Words.{IsNoCommand, IsSomeConvert};
+ghost use Rattle.bye_cli.specs.Words.{IsNoCommand, IsSomeConvert, IsSomeRun};
 ghost use Rattle.bye_cli.specs.Problem.{IsDoneOutput, IsRefusedOutput, IsOutput, IsAnswer};
 ghost use Rattle.bye_cli.specs.Converting.{IsConversion};
+ghost use Rattle.bye_cli.specs.Running.{IsCrowded, IsRunning};
 ghost use Rattle.bye_cli.specs.Causes.{IsCause, IsFailure, IsFaulty, IsPast, IsMissing, IsWithoutRow, IsQuiet, IsAskedCase};
 ghost use Rattle.bye_cli.specs.Headline.{Headline};
 ghost use Rattle.bye_cli.specs.Messages.{IsMessage};
@@ -17,6 +18,7 @@ use crate::converting::{converted, converted_table};
 use crate::ending::Ending;
 use crate::learning::learned;
 use crate::report::report;
+use crate::running::ran;
 use bye_io::{Folder, Sink, write_all};
 use bye_terms::Text;
 use bye_words::{Refusal, Status};
@@ -40,6 +42,7 @@ fn answer<F: Folder>(alloc: Global, words: &[Text], folder: &mut F) -> Result<An
         Some(Command::ConvertTable { table, from, to }) => {
             converted_table(alloc, folder, table, from, to)
         }
+        Some(Command::Run { graph, query, form }) => ran(alloc, folder, graph, query, form),
         None => Err(Refusal::Words),
     }
 }
@@ -87,6 +90,9 @@ pub fn run_program<F: Folder, S: Sink, E: Sink>(
     // What is converted is the canonical document of the graph's triples.
     ensures converted { IsSomeConvert words.now → IsConversion (F.files folder.old) words.now (S.sent out.old) (S.sent out.new) result }
 
+    // What is run is answered by the algebra.
+    ensures ran { IsSomeRun words.now → IsRunning (F.files folder.old) words.now (S.sent out.old) (S.sent out.new) result }
+
     // What is written.
     ensures done { result ≡ Status.Done → Sends (IsDoneOutput (F.files folder.old) words.now) (S.sent out.old) (S.sent out.new) }
     ensures refused { result ≡ Status.Refused → Sends (IsRefusedOutput (F.files folder.old) words.now) (S.sent out.old) (S.sent out.new) }
@@ -100,7 +106,7 @@ pub fn run_program<F: Folder, S: Sink, E: Sink>(
     // What each other status says.
     ensures words { result ≡ Status.Words ↔ IsNoCommand words.now }
     ensures document { result ≡ Status.Document → IsFaulty (F.files folder.old) words.now }
-    ensures limit { result ≡ Status.Limit → IsPast (F.files folder.old) words.now }
+    ensures limit { result ≡ Status.Limit → IsPast (F.files folder.old) words.now ⊎ IsCrowded (F.files folder.old) words.now }
     ensures example { result ≡ Status.Example → IsWithoutRow (F.files folder.old) words.now }
     ensures read_fault { result ≡ Status.ReadFault → Rose (F.faults folder.old) (F.faults folder.new) ⊎ IsMissing (F.files folder.old) words.now }
     ensures write_rose { result ≡ Status.WriteFault → Rose (S.faults out.old) (S.faults out.new) }
@@ -110,12 +116,15 @@ pub fn run_program<F: Folder, S: Sink, E: Sink>(
         → result ≡ Status.Document ⊎ result ≡ Status.Memory }
     ensures too_long { IsQuiet (F.files folder.old) (F.faults folder.old) (F.faults folder.new) → IsPast (F.files folder.old) words.now
         → result ≡ Status.Limit ⊎ result ≡ Status.Memory }
+    ensures crowded { IsQuiet (F.files folder.old) (F.faults folder.old) (F.faults folder.new) → IsCrowded (F.files folder.old) words.now
+        → result ≡ Status.Limit ⊎ result ≡ Status.Memory }
     ensures missing { IsQuiet (F.files folder.old) (F.faults folder.old) (F.faults folder.new) → IsMissing (F.files folder.old) words.now
         → result ≡ Status.ReadFault ⊎ result ≡ Status.Memory }
     ensures without_row { IsQuiet (F.files folder.old) (F.faults folder.old) (F.faults folder.new) → IsWithoutRow (F.files folder.old) words.now
         → result ≡ Status.Example ⊎ result ≡ Status.Memory }
 
-    // Where moreover the output's count did not rise, a question with a row and a graph to convert are answered.
+    // Where moreover the output's count did not rise, a question with a row, a document to convert and a query
+    // with no more answers than may be are answered.
     ensures complete { IsQuiet (F.files folder.old) (F.faults folder.old) (F.faults folder.new) → ¬ (Rose (S.faults out.old) (S.faults out.new))
         → IsAskedCase (F.files folder.old) words.now → IsAnswered result }
 

@@ -491,6 +491,248 @@ fn tables_are_converted(rt: HostRuntime) -> Result<(), Fail> {
     Ok(())
 }
 
+// Three people, of whom two have a mail address.
+const PEOPLE: &str =
+    "<http://e/a> <http://e/type> <http://e/P> .\n<http://e/b> <http://e/type> <http://e/P> .\n<http://e/c> <http://e/type> <http://e/P> .\n<http://e/a> <http://e/mail> \"m1\" .\n<http://e/c> <http://e/mail> \"m3\" .\n";
+
+const RUN: &str = "run --graph g --query w";
+
+#[test]
+fn queries_are_run(rt: HostRuntime) -> Result<(), Fail> {
+    for (line, query, status, sent, told) in [
+        (
+            RUN,
+            "SELECT * WHERE { ?x <http://e/type> <http://e/P> OPTIONAL { ?x <http://e/mail> ?m } FILTER (!bound(?m)) }",
+            Status::Done,
+            "?x\t?m\n<http://e/b>\t\n",
+            "",
+        ),
+        // The error for the person without an address drops it.
+        (
+            RUN,
+            "SELECT * WHERE { ?x <http://e/type> <http://e/P> OPTIONAL { ?x <http://e/mail> ?m } FILTER (sameTerm(?m, \"m1\")) }",
+            Status::Done,
+            "?x\t?m\n<http://e/a>\t\"m1\"\n",
+            "",
+        ),
+        (
+            RUN,
+            "SELECT * WHERE { ?x <http://e/type> <http://e/P> OPTIONAL { ?x <http://e/mail> ?m } FILTER (!sameTerm(?m, \"m1\")) }",
+            Status::Done,
+            "?x\t?m\n<http://e/c>\t\"m3\"\n",
+            "",
+        ),
+        (
+            RUN,
+            "SELECT * WHERE { ?x <http://e/type> <http://e/P> OPTIONAL { ?x <http://e/mail> ?m } FILTER (sameTerm(?m, \"m1\") || !bound(?m)) }",
+            Status::Done,
+            "?x\t?m\n<http://e/a>\t\"m1\"\n<http://e/b>\t\n",
+            "",
+        ),
+        (
+            "run --as csv --query w --graph g",
+            "SELECT ?m ?x { ?x <http://e/type> <http://e/P> OPTIONAL { ?x <http://e/mail> ?m } }",
+            Status::Done,
+            "m,x\r\n,http://e/b\r\nm1,http://e/a\r\nm3,http://e/c\r\n",
+            "",
+        ),
+        (
+            "run --graph g --query w --as json",
+            "SELECT * { ?x <http://e/mail> \"m1\" }",
+            Status::Done,
+            "{\"head\":{\"vars\":[\"x\"]},\"results\":{\"bindings\":[{\"x\":{\"type\":\"uri\",\"value\":\"http://e/a\"}}]}}",
+            "",
+        ),
+        // Each answer once, whatever the query's rows are; and a variable that no group has.
+        (
+            RUN,
+            "SELECT DISTINCT ?p ?z { ?x ?p ?y }",
+            Status::Done,
+            "?p\t?z\n<http://e/mail>\t\n<http://e/type>\t\n",
+            "",
+        ),
+        // Triples after an OPTIONAL, and one within another.
+        (
+            RUN,
+            "SELECT * { ?x <http://e/mail> ?m OPTIONAL { ?y <http://e/mail> ?m . ?y <http://e/type> ?t OPTIONAL { ?y ?q ?t } } ?x ?p <http://e/P> }",
+            Status::Done,
+            "?x\t?m\t?p\t?y\t?t\t?q\n<http://e/a>\t\"m1\"\t<http://e/type>\t<http://e/a>\t<http://e/P>\t<http://e/type>\n<http://e/c>\t\"m3\"\t<http://e/type>\t<http://e/c>\t<http://e/P>\t<http://e/type>\n",
+            "",
+        ),
+        // A term that the graph does not have, in a group and in an OPTIONAL group.
+        (
+            RUN,
+            "SELECT * { ?x <http://e/mail> <http://e/none> }",
+            Status::Done,
+            "?x\n",
+            "",
+        ),
+        (
+            RUN,
+            "SELECT * { ?x <http://e/mail> \"m3\" OPTIONAL { ?x <http://e/none> ?y } }",
+            Status::Done,
+            "?x\t?y\n<http://e/c>\t\n",
+            "",
+        ),
+        (
+            RUN,
+            "SELECT ?x WHERE {?x ?p ?o} ORDER BY ?x",
+            Status::Document,
+            "",
+            "sparqlbye: query: left out at byte 27: ORDER\n",
+        ),
+        (
+            RUN,
+            "SELECT ?x {?x ?p ?o}",
+            Status::Document,
+            "",
+            "sparqlbye: query: variables left out without DISTINCT\n",
+        ),
+        (
+            RUN,
+            "SELECT * {?x <http://e/p> ?y OPTIONAL {?z <http://e/p> ?w OPTIONAL {?x <http://e/q> ?v}}}",
+            Status::Document,
+            "",
+            "sparqlbye: query: not well-designed at node 1.1\n",
+        ),
+        (
+            RUN,
+            "SELECT * {OPTIONAL {?x <http://e/p> ?y}}",
+            Status::Document,
+            "",
+            "sparqlbye: query: no triples at node root\n",
+        ),
+        (
+            RUN,
+            "SELECT * {?x e:p ?y}",
+            Status::Document,
+            "",
+            "sparqlbye: query: unknown prefix at byte 13\n",
+        ),
+        (
+            RUN,
+            "SELECT * {?x ?p ?y",
+            Status::Document,
+            "",
+            "sparqlbye: query: fault at byte 18\n",
+        ),
+        (
+            "run --graph g --query u",
+            "",
+            Status::ReadFault,
+            "",
+            "sparqlbye: query: read failed\n",
+        ),
+        (
+            "run --graph w --query u",
+            "",
+            Status::ReadFault,
+            "",
+            "sparqlbye: query: read failed\n",
+        ),
+        (
+            "run --graph w --query u",
+            "SELECT",
+            Status::Document,
+            "",
+            "sparqlbye: graph: fault at byte 0\n",
+        ),
+        ("run --graph g", "", Status::Words, "", "sparqlbye: words\n"),
+        (
+            "run --graph g --query w --as xml",
+            "",
+            Status::Words,
+            "",
+            "sparqlbye: words\n",
+        ),
+        (
+            "run --graph g --query w --wanted w",
+            "",
+            Status::Words,
+            "",
+            "sparqlbye: words\n",
+        ),
+    ] {
+        let end = runs(&rt, rt.alloc(), line, PEOPLE.as_bytes(), query)?;
+        is_end(&rt, query, &end, status, sent, told);
+    }
+    Ok(())
+}
+
+// The pairs of two unconnected patterns, which are more than may be; and a query that is longer than may be read.
+#[test]
+fn queries_end_at_their_limits(rt: HostRuntime) -> Result<(), Fail> {
+    let alloc = rt.alloc();
+    let mut graph = String::new(alloc);
+    for number in 0..1025 {
+        let line = format!(in alloc; "<http://e/{number}> <http://e/p> <http://e/o> .\n")?;
+        graph.push_str(line.as_str())?;
+    }
+    for (name, query, status, sent, told) in [
+        (
+            "too many pairs",
+            Vec::from_slice(alloc, b"SELECT * {?x ?p ?y . ?z ?q ?w}")?,
+            Status::Limit,
+            "",
+            "sparqlbye: answer: too many rows\n",
+        ),
+        (
+            "many pairs, and few answers",
+            Vec::from_slice(alloc, b"SELECT DISTINCT ?p {?x ?p ?y . ?z ?q ?w}")?,
+            Status::Done,
+            "?p\n<http://e/p>\n",
+            "",
+        ),
+        (
+            "a query at its limit",
+            filled(
+                alloc,
+                b"SELECT DISTINCT ?p {?x ?p ?y} #",
+                b'c',
+                b"",
+                16_777_216,
+            )?,
+            Status::Done,
+            "?p\n<http://e/p>\n",
+            "",
+        ),
+        (
+            "a query past it",
+            filled(
+                alloc,
+                b"SELECT DISTINCT ?p {?x ?p ?y} #",
+                b'c',
+                b"",
+                16_777_217,
+            )?,
+            Status::Limit,
+            "",
+            "sparqlbye: query: too many bytes\n",
+        ),
+        (
+            "brackets past their limit",
+            filled(
+                alloc,
+                b"SELECT DISTINCT ?p {?x ?p ?y FILTER ",
+                b'(',
+                b"",
+                110,
+            )?,
+            Status::Limit,
+            "",
+            "sparqlbye: query: too many brackets\n",
+        ),
+    ] {
+        let graph = Vec::from_slice(alloc, graph.as_str().as_bytes())?;
+        let folder = folder(&rt, alloc, graph, query, &[], 1_000_000)?;
+        let out = sink(alloc, 1000, &[], 1000)?;
+        let err = sink(alloc, 1000, &[], 1000)?;
+        let end = ends(alloc, RUN, folder, out, err)?;
+        is_end(&rt, name, &end, status, sent, told);
+    }
+    Ok(())
+}
+
 // Both commands refuse the graph with this line.
 fn has_fault(rt: &impl Abort, alloc: Global, graph: &[u8], told: &str) -> Result<(), Fail> {
     for line in [LEARN, CONVERT] {

@@ -29,7 +29,7 @@ module _ (bytes : List ℕ) where
   one_split ts us a b = let n = length (encode_utf8_all (chars bytes)) in (one_way n (chars bytes)).1 ts a ∙ sym ((one_way n (chars bytes)).1 us b)
 
   -- a select that is read is one
-  one_query : (v w : Written) → QueryText bytes v → QueryText bytes w → v ≡ w
+  pub one_query : (v w : Written) → QueryText bytes v → QueryText bytes w → v ≡ w
   one_query v w a b = documents_once b.tokens v w (subst (λ ts. (any document).derives ts v) (one_split a.tokens b.tokens a.split b.split) a.derives) b.derives
 
   pub one_select : (q r : Select) → IsRead bytes q → IsRead bytes r → q ≡ r

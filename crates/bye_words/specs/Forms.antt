@@ -93,6 +93,15 @@ convert_table = record {
   may = [];
 }
 
+-- `run` with `--graph FILE` and `--query FILE`, and maybe `--as FORM`
+abbrev pub run : Form
+run = record {
+  name = names.Run;
+  command = codes "run";
+  must = file (codes "--graph") ∷ file (codes "--query") ∷ [];
+  may = choice (codes "--as") written_forms ∷ [];
+}
+
 -- the forms of the program
 abbrev pub forms : List Form
-forms = learn ∷ convert ∷ convert_table ∷ []
+forms = learn ∷ convert ∷ convert_table ∷ run ∷ []

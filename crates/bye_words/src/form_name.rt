@@ -7,4 +7,6 @@ pub enum FormName {
     Convert,
     /// `convert` of a table.
     ConvertTable,
+    /// `run` of a query over a graph.
+    Run,
 }

@@ -14,7 +14,7 @@ const READ_FORMS: &[&str] = &["tsv", "json"];
 const WRITTEN_FORMS: &[&str] = &["tsv", "json", "csv"];
 
 /// The forms of the program's words.
-static FORMS: [Form; 3] = [
+static FORMS: [Form; 4] = [
     Form {
         name: FormName::Learn,
         command: "learn",
@@ -60,6 +60,24 @@ static FORMS: [Form; 3] = [
             },
         ],
         may: &[],
+    },
+    Form {
+        name: FormName::Run,
+        command: "run",
+        must: &[
+            Name {
+                text: "--graph",
+                kind: Kind::File,
+            },
+            Name {
+                text: "--query",
+                kind: Kind::File,
+            },
+        ],
+        may: &[Name {
+            text: "--as",
+            kind: Kind::OneOf(WRITTEN_FORMS),
+        }],
     },
 ];
 

@@ -2,8 +2,8 @@ use Rattle.std.proofs.Common.{sym, subst, ◌∙◌}
 use Rattle.bye_io.specs.Counts.{Rose}
 use Rattle.bye_cli.specs.Messages.{IsMessage}
 use Rattle.bye_words.specs.declared.status.Status.{Status}
-use Rattle.bye_cli.proofs.Exclusive.{Faults, Past, Missing, Bare}
-use Rattle.bye_cli.proofs.Settled.{Run, words_alone, settled, answered, headline, conversion, is_done, is_document, is_limit, is_refused, is_write_fault, message}
+use Rattle.bye_cli.proofs.Exclusive.{Faults, Past, Missing, Bare, Crowded}
+use Rattle.bye_cli.proofs.Settled.{Run, words_alone, settled, answered, headline, conversion, running, is_done, is_document, is_limit, is_refused, is_write_fault, message}
 use Rattle.bye_cli.proofs.program.run_program.Given.{Over}
 use Rattle.bye_cli.proofs.program.run_program.Goals as goal
 
@@ -23,6 +23,9 @@ returns-clause-headline g c = headline _ _ _ _ _ _ _ _ c.perform-outcome.result 
 
 pub returns-clause-converted : goal.returns-clause-converted
 returns-clause-converted g c = conversion _ _ _ _ _ _ _ _ c.perform-outcome.result (run_of g c) c.report.result c.report.ensures.status
+
+pub returns-clause-ran : goal.returns-clause-ran
+returns-clause-ran g c = running _ _ _ _ _ _ _ _ c.perform-outcome.result (run_of g c) c.report.result c.report.ensures.status
 
 pub returns-clause-err : goal.returns-clause-err
 returns-clause-err g c =
@@ -55,6 +58,9 @@ returns-clause-faulty g c = λ quiet stopped. settled _ _ _ _ _ _ _ _ c.perform-
 
 pub returns-clause-too_long : goal.returns-clause-too_long
 returns-clause-too_long g c = λ quiet stopped. settled _ _ _ _ _ _ _ _ c.perform-outcome.result (run_of g c) c.report.result c.report.ensures.status quiet Past stopped
+
+pub returns-clause-crowded : goal.returns-clause-crowded
+returns-clause-crowded g c = λ quiet crowded. settled _ _ _ _ _ _ _ _ c.perform-outcome.result (run_of g c) c.report.result c.report.ensures.status quiet Crowded crowded
 
 pub returns-clause-missing : goal.returns-clause-missing
 returns-clause-missing g c = λ quiet missing. settled _ _ _ _ _ _ _ _ c.perform-outcome.result (run_of g c) c.report.result c.report.ensures.status quiet Missing missing
