@@ -1,0 +1,10 @@
+pub mod ConditionLists
+pub mod Numbering
+pub mod Around
+pub mod Restricting
+pub mod OneRestriction
+pub mod Sorting
+pub mod Lines
+pub mod Places
+pub mod Finding
+pub mod Whole

@@ -1,0 +1,7 @@
+use Rattle.std.proofs.Common.{◌≡◌, ◌++◌, take}
+use Rattle.std.specs.List.{flat_map}
+use Rattle.bye_strongest.specs.Conds.{same_const}
+use Rattle.bye_strongest.proofs.conditions.push_same_consts.Given as goal
+
+abbrev pub invariant-loop-var : goal.invariant-loop-var
+invariant-loop-var l = l.out.items ≡ l.initial.out.items ++ flat_map (same_const l.row) (take l.var-index l.vars)
